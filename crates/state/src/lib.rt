@@ -1,0 +1,7 @@
+// The state block by name: its places, the modes, the fields of its words, and when it is good.
+// Nothing here knows of events.
+pub mod field;
+pub mod mode;
+pub mod number;
+pub mod place;
+pub mod state;
