@@ -7,7 +7,7 @@ use native.Mathlib.Nat.{add-zero, add-suc, suc-add, zero-add, le-of-suc-le-suc, 
 use native.Mathlib.Omega.{arith}
 use lib.Dec.{eqb}
 use lib.ListN.{length, getD}
-use borrow.Author.Tests.{eqb-true, eqb-false}
+use borrow.Author.Tests.{eqb-true, eqb-false, not-true, not-false}
 use Rattle.state.specs.Choice.{if_then_else_, _is_, _among_}
 
 pub and-left : (a b : Bool) → (a && b) ≡ true → a ≡ true
@@ -30,6 +30,27 @@ refuted false h = refl
 
 pub true-is-not-false : {a : Bool} → a ≡ true → a ≡ false → ⊥
 true-is-not-false p q = let z : _≡_ {A = ℕ} 0 1 = let y : _≡_ {A = Bool} true false = sym p ∙ q in cc in omega arith
+
+-- what a call answered, and how the branch on it went, tell of what it is equal to
+pub told : {r x t : Bool} → r ≡ x → r ≡ t → x ≡ t
+told e h = sym e ∙ h
+
+pub told-not : {r x : Bool} → r ≡ x → not r ≡ true → x ≡ false
+told-not {r} e h = sym e ∙ not-true r h
+
+pub told-still : {r x : Bool} → r ≡ x → not r ≡ false → x ≡ true
+told-still {r} e h = sym e ∙ not-false r h
+
+-- the same of a test of two parts
+pub told-both : {r p q x y t : Bool} → p ≡ x → q ≡ y → r ≡ (p && q) → r ≡ t → (x && y) ≡ t
+told-both d e f h = cc
+
+pub told-either : {r p q x y t : Bool} → p ≡ x → q ≡ y → r ≡ (p || q) → r ≡ t → (x || y) ≡ t
+told-either d e f h = cc
+
+pub told-both-either : {r s u v e x y z t : Bool} → s ≡ x → u ≡ y → v ≡ z → e ≡ (u || v) → r ≡ (s && e) → r ≡ t
+    → (x && (y || z)) ≡ t
+told-both-either a b c d e h = cc
 
 -- are two tests the same?
 abbrev pub same : Bool → Bool → Bool

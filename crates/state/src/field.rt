@@ -1,11 +1,12 @@
 // The fields of the words that steer the rules (document 01, "The state block"), each by its register's name and its own.
 ghost use mathlib.Core.Path.{_≡_};
-ghost use mathlib.Core.Bool.{true, false};
+ghost use Prim.Native.Nat.{_<_};
 ghost use Rattle.state.specs.Field.{flag, CPSR-T, CPSR-F, CPSR-I, CPSR-A, SCR-NS, SCR-IRQ, SCR-FIQ, SCR-EA, SCR-FW, SCR-AW, HCR-FMO, HCR-IMO, HCR-AMO, HCR-VF, HCR-VI, HCR-VA, HCR-TSC, HCR-TGE, SCTLR-V, SCTLR-EE, SCTLR-TE};
 
 // A test as a number: what bit 0 would be.
 pub fn as_number(t: bool) -> u32
     ensures { λ r. ⌜ r ≡ flag 0 t ⌝ }
+    ensures small { λ r. ⌜ r < 2 ⌝ }
 {
     if t { 1 } else { 0 }
 }

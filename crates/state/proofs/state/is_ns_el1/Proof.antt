@@ -7,9 +7,6 @@ use Rattle.state.proofs.state.is_ns_el1.Tie as tie
 scr-ns-requires : tie.Need-scr-ns-requires
 scr-ns-requires c κs = search needs
 
-of-requires : tie.Need-of-requires
-of-requires c κs = search needs
-
 is-el1-requires : tie.Need-is-el1-requires
 is-el1-requires c κs = search needs
 
@@ -18,9 +15,8 @@ both-requires c κs = search needs
 
 returns : tie.Need-returns
 returns c = 
-    let a = c .before .before .before .before .args in
+    let a = c .before .before .before .args in
     cc (ns-el1 (a .cpsr) (a .scr))
 
 pub is-ns-el1-spec : {M : Type 1} → statement M
-is-ns-el1-spec =
-    tie.close (tie.spec scr-ns-requires of-requires is-el1-requires both-requires returns)
+is-ns-el1-spec = tie.close (tie.spec scr-ns-requires is-el1-requires both-requires returns)

@@ -7,20 +7,16 @@ use Rattle.state.proofs.state.is_ns_user.Tie as tie
 scr-ns-requires : tie.Need-scr-ns-requires
 scr-ns-requires c κs = search needs
 
-of-requires : tie.Need-of-requires
-of-requires c κs = search needs
-
-is-requires : tie.Need-is-requires
-is-requires c κs = search needs
+is-user-requires : tie.Need-is-user-requires
+is-user-requires c κs = search needs
 
 both-requires : tie.Need-both-requires
 both-requires c κs = search needs
 
 returns : tie.Need-returns
 returns c = 
-    let a = c .before .before .before .before .args in
+    let a = c .before .before .before .args in
     cc (ns-user (a .cpsr) (a .scr))
 
 pub is-ns-user-spec : {M : Type 1} → statement M
-is-ns-user-spec =
-    tie.close (tie.spec scr-ns-requires of-requires is-requires both-requires returns)
+is-ns-user-spec = tie.close (tie.spec scr-ns-requires is-user-requires both-requires returns)

@@ -1,0 +1,101 @@
+-- Four words put, each at the place and with the value of the definition; a target's places lie inside the block.
+use mathlib.Core.List.{List}
+use mathlib.Core.Path.{_≡_}
+use Prim.Native.Nat.{ℕ, _*_, _/_, _%_}
+use borrow.Author.Needs.{needs}
+use native.Mathlib.Omega.{arith}
+use Rattle.entry.proofs.enter.write_entry.Statement.{statement}
+use Rattle.entry.proofs.enter.write_entry.Tie as tie
+use Rattle.entry.specs.Enter.{cpsrAfter, controlPlace, vectorBase, written}
+use Rattle.entry.specs.Route.{wrap}
+use Rattle.state.proofs.Laws.{spsr-inside, lr-inside}
+use Rattle.state.specs.Field.{bits}
+use Rattle.state.specs.Mode.{spsrPlace, lrPlace}
+use Rattle.state.specs.Place.{CPSR, PC, SCR}
+use Rattle.words.specs.Word.{word, put}
+
+whole : (b : List ℕ) (cpsr to offset link : ℕ) {l1 l2 l3 l4 : List ℕ} {sctlr scr after base s l pc : ℕ}
+    → sctlr ≡ word b (controlPlace b to)
+    → scr ≡ word b SCR
+    → after ≡ cpsrAfter cpsr scr sctlr to
+    → base ≡ vectorBase b to sctlr
+    → s ≡ spsrPlace to
+    → l ≡ lrPlace to
+    → l1 ≡ put b s cpsr
+    → l2 ≡ put l1 l link
+    → l3 ≡ put l2 CPSR after
+    → pc ≡ wrap (bits 31 5 base) offset
+    → l4 ≡ put l3 PC pc
+    → l4 ≡ written b cpsr to offset link
+unfolding written
+whole b cpsr to offset link c k a v p q e f g w h = cc
+
+control-of-requires : tie.Need-control-of-requires
+control-of-requires c κs = search needs
+
+get-word-requires : tie.Need-get-word-requires
+get-word-requires c κs = search needs
+
+cpsr-after-requires : tie.Need-cpsr-after-requires
+cpsr-after-requires c κs = search needs
+
+base-of-requires : tie.Need-base-of-requires
+base-of-requires c κs = search needs
+
+mul-start : tie.Need-mul-start
+mul-start c = search needs
+
+spsr-place-requires : tie.Need-spsr-place-requires
+spsr-place-requires c κs = search needs
+
+put-word-requires : tie.Need-put-word-requires
+put-word-requires c κs = 
+    let p = spsr-inside (c .before .before .before .before .before .before .before .before .before .before .args .to) (c .before .before .before .before .before .before .before .before .before .before .pre .1) in
+    let e = c .spsr-place .ensures in
+    omega arith
+
+lr-place-requires : tie.Need-lr-place-requires
+lr-place-requires c κs = search needs
+
+put-word-requires-2 : tie.Need-put-word-requires-2
+put-word-requires-2 c κs = 
+    let p = lr-inside (c .before .before .before .before .before .before .before .before .before .before .before .before .before .before .before .args .to) (c .before .before .before .before .before .before .before .before .before .before .before .before .before .before .before .pre .1) in
+    let e = c .lr-place .ensures in
+    omega arith
+
+put-word-requires-3 : tie.Need-put-word-requires-3
+put-word-requires-3 c κs = search needs
+
+wrapping-add-u32-requires : tie.Need-wrapping-add-u32-requires
+wrapping-add-u32-requires c κs = search needs
+
+put-word-requires-4 : tie.Need-put-word-requires-4
+put-word-requires-4 c κs = search needs
+
+same-length : tie.Need-same-length
+same-length c = search needs
+
+returns : tie.Need-returns
+returns c = 
+    whole _ _ _ _ _ (c .before .before .before .before .before .before .before .before .before .before .before .before .before .before .before .before .before .before .before .before .before .before .before .before .control-of .ensures) (c .before .before .before .before .before .before .before .before .before .before .before .before .before .before .before .before .before .before .before .before .before .before .get-word .ensures) (c .before .before .before .before .before .before .before .before .before .before .before .before .before .before .before .before .before .before .before .before .before .cpsr-after .ensures) (c .before .before .before .before .before .before .before .before .before .before .before .before .before .before .before .before .before .before .before .base-of .ensures)
+    (c .before .before .before .before .before .before .before .before .before .before .before .before .before .before .before .before .before .spsr-place .ensures) (c .before .before .before .before .before .before .before .before .before .before .before .before .lr-place .ensures) (c .before .before .before .before .before .before .before .before .before .before .before .before .before .before .before .before .put-word .ensures) (c .before .before .before .before .before .before .before .before .before .before .before .put-word2 .ensures) (c .before .before .before .before .before .before .before .put-word3 .ensures)
+    (c .before .before .before .wrapping-add-u32 .ensures) (c .before .before .put-word4 .ensures)
+
+pub write-entry-spec : {M : Type 1} → statement M
+write-entry-spec =
+    tie.close
+    (tie.spec
+    control-of-requires
+    get-word-requires
+    cpsr-after-requires
+    base-of-requires
+    mul-start
+    spsr-place-requires
+    put-word-requires
+    lr-place-requires
+    put-word-requires-2
+    put-word-requires-3
+    wrapping-add-u32-requires
+    put-word-requires-4
+    same-length
+    returns)

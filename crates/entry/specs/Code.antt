@@ -1,0 +1,51 @@
+-- The codes of the synchronous events and the bits of an abort's A (document 01, "Events").
+use mathlib.Core.Bool.{Bool}
+use mathlib.Core.List.{List, [], _∷_}
+use Prim.Native.Nat.{ℕ}
+use Rattle.state.specs.Choice.{_among_}
+use Rattle.state.specs.Field.{bit}
+
+abbrev pub UNDEFINED-INSTRUCTION : ℕ
+UNDEFINED-INSTRUCTION = 1
+
+abbrev pub SVC : ℕ
+SVC = 2
+
+abbrev pub SMC : ℕ
+SMC = 3
+
+abbrev pub HVC : ℕ
+HVC = 4
+
+abbrev pub PREFETCH-ABORT : ℕ
+PREFETCH-ABORT = 5
+
+abbrev pub DATA-ABORT : ℕ
+DATA-ABORT = 6
+
+abbrev pub HYP-TRAP : ℕ
+HYP-TRAP = 7
+
+abbrev pub MONITOR-TRAP : ℕ
+MONITOR-TRAP = 8
+
+-- codes 1 to 8
+abbrev pub isSynchronous : ℕ → Bool
+isSynchronous code =
+    code
+    among (UNDEFINED-INSTRUCTION ∷ SVC ∷ SMC ∷ HVC ∷ PREFETCH-ABORT ∷ DATA-ABORT ∷ HYP-TRAP ∷ MONITOR-TRAP ∷ [])
+
+-- "Prefetch Abort, synchronous Data Abort"
+abbrev pub isAbort : ℕ → Bool
+isAbort code = code among (PREFETCH-ABORT ∷ DATA-ABORT ∷ [])
+
+-- "any of codes 1, 2, 5, 6": those that have a mode of their own to go to
+abbrev pub isGeneral : ℕ → Bool
+isGeneral code = code among (UNDEFINED-INSTRUCTION ∷ SVC ∷ PREFETCH-ABORT ∷ DATA-ABORT ∷ [])
+
+-- "A: 1 external + 2 stage 2"
+abbrev pub external : ℕ → Bool
+external = bit 0
+
+abbrev pub stage2 : ℕ → Bool
+stage2 = bit 1

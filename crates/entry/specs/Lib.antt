@@ -1,0 +1,4 @@
+pub mod Code
+pub mod Route
+pub mod Enter
+pub mod Parts

@@ -1,0 +1,4 @@
+// Exception entry: where a synchronous event goes, and what an entry writes. Nothing here knows of interrupts or refusals.
+pub mod code;
+pub mod enter;
+pub mod route;
