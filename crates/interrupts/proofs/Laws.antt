@@ -1,0 +1,120 @@
+-- The masking table asked quickly, the virtual exceptions asked together, and the first of the six on each way through.
+use mathlib.Core.Path.{_≡_, refl, sym, ap, _∙_}
+use mathlib.Core.Bool.{Bool, true, false, not, _&&_, _||_}
+use mathlib.Core.List.{List, [], _∷_}
+use Prim.Native.Nat.{ℕ}
+use Rattle.state.specs.Choice.{if_then_else_, _is_, _among_}
+use Rattle.state.specs.Field.{mode-field, SCR-NS, HCR-TGE}
+use Rattle.state.specs.Mode.{USER, el1, guest}
+use Rattle.state.specs.State.{nsEl1, nsUser}
+use Rattle.state.proofs.Laws.{ns-el1, ns-user}
+use Rattle.state.proofs.Test.{same, same-eq, anyBit, at-bit}
+use Rattle.interrupts.specs.Check.{firstOf, found}
+use Rattle.interrupts.specs.Exception.{Exception, SError, Fiq, Irq, VirtualSError, VirtualFiq, VirtualIrq, order}
+use Rattle.interrupts.specs.Kind.{Kind, serror, fiq, irq, M, mask, source}
+use Rattle.interrupts.specs.Masking.{obeyed}
+use Rattle.interrupts.specs.Parts.{virtualHere, takenIf, takesVirtual}
+use Rattle.interrupts.specs.Takeable.{virtualPending, pending, masked, takeable}
+use Rattle.interrupts.specs.declared.check.Found.{Found}
+use Rattle.interrupts.specs.declared.check.Found.the-variants.{Nothing, First}
+
+-- the masking table by tests: at every state and every M, R and W it says the same as its rows
+abbrev pub obeyedBy : Bool → Bool → Bool → Bool → Bool → Bool
+obeyedBy sec hyp m r w =
+    if sec then true else
+    if m then (if hyp then not r else false) else
+    if r then w else
+    true
+
+abbrev agrees : Bool → Bool → Bool → Bool → Bool → Bool
+agrees sec hyp m r w = same (obeyed sec hyp m r w) (obeyedBy sec hyp m r w)
+
+tried : anyBit (λ sec. anyBit (λ hyp. anyBit (λ m. anyBit (λ r. anyBit (λ w. agrees sec hyp m r w))))) ≡ true
+unfolding obeyed
+tried = refl
+
+pub obeyed-by : (sec hyp m r w : Bool) → obeyed sec hyp m r w ≡ obeyedBy sec hyp m r w
+obeyed-by sec hyp m r w =
+    same-eq (obeyed sec hyp m r w) (obeyedBy sec hyp m r w)
+    (at-bit (agrees sec hyp m r)
+    (at-bit (λ r. anyBit (agrees sec hyp m r))
+    (at-bit (λ m. anyBit (λ r. anyBit (agrees sec hyp m r)))
+    (at-bit (λ hyp. anyBit (λ m. anyBit (λ r. anyBit (agrees sec hyp m r))))
+    (at-bit (λ sec. anyBit (λ hyp. anyBit (λ m. anyBit (λ r. anyBit (agrees sec hyp m r))))) tried sec)
+    hyp) m) r) w)
+
+-- Non-secure User and NS EL1 together: NS, and a mode that a guest runs in
+both-of : (ns user el : Bool) → ((ns && user) || (ns && el)) ≡ (ns && (if user then true else el))
+both-of true true el = refl
+both-of true false el = refl
+both-of false user el = refl
+
+pub in-guest : (cpsr scr : ℕ) → (nsUser cpsr scr || nsEl1 cpsr scr) ≡ (SCR-NS scr && guest (mode-field cpsr))
+unfolding guest el1
+in-guest cpsr scr =
+    rw (ns-user cpsr scr, ns-el1 cpsr scr)
+    (both-of (SCR-NS scr) (mode-field cpsr is USER) (el1 (mode-field cpsr)))
+
+-- a virtual exception can be taken where one can be pending at all, by its M, its source and its mask bit
+parted : (here tge m src msk : Bool) → ((here && (not tge && (m && src))) && not msk) ≡ ((here && not tge) && (m && (src && not msk)))
+parted true true m src msk = refl
+parted true false true src msk = refl
+parted true false false src msk = refl
+parted false tge m src msk = refl
+
+pub virtual-taken : (k : Kind) (lines cpsr scr hcr : ℕ)
+    → (virtualPending k lines cpsr scr hcr && not (mask k cpsr)) ≡ (virtualHere cpsr scr hcr && takesVirtual k lines cpsr hcr)
+virtual-taken k lines cpsr scr hcr =
+    rw (in-guest cpsr scr)
+    (parted (SCR-NS scr && guest (mode-field cpsr)) (HCR-TGE hcr) (M k hcr) (source k hcr lines) (mask k cpsr))
+
+-- the first of the six, on each way through the tests
+module _ (lines cpsr scr hcr : ℕ) where
+  abbrev can : Exception → Bool
+  can x = takeable x lines cpsr scr hcr
+
+  pub first-serror : can SError ≡ true → First SError ≡ found lines cpsr scr hcr
+  unfolding found
+  first-serror a = rw a
+
+  pub first-fiq : can SError ≡ false → can Fiq ≡ true → First Fiq ≡ found lines cpsr scr hcr
+  unfolding found
+  first-fiq a b = rw (a, b)
+
+  pub first-irq : can SError ≡ false → can Fiq ≡ false → can Irq ≡ true → First Irq ≡ found lines cpsr scr hcr
+  unfolding found
+  first-irq a b c = rw (a, b, c)
+
+  -- none of the physical ones
+  module _ (a : can SError ≡ false) (b : can Fiq ≡ false) (c : can Irq ≡ false) where
+    rest : {x : Found} → x ≡ firstOf (VirtualSError ∷ VirtualFiq ∷ VirtualIrq ∷ []) lines cpsr scr hcr → x ≡ found lines cpsr scr hcr
+    unfolding found
+    rest h = rw (a, b, c) h
+
+    serror-is : can VirtualSError ≡ (virtualHere cpsr scr hcr && takesVirtual serror 0 cpsr hcr)
+    unfolding takeable pending masked
+    serror-is = virtual-taken serror lines cpsr scr hcr
+
+    fiq-is : can VirtualFiq ≡ (virtualHere cpsr scr hcr && takesVirtual fiq lines cpsr hcr)
+    unfolding takeable pending masked
+    fiq-is = virtual-taken fiq lines cpsr scr hcr
+
+    irq-is : can VirtualIrq ≡ (virtualHere cpsr scr hcr && takesVirtual irq lines cpsr hcr)
+    unfolding takeable pending masked
+    irq-is = virtual-taken irq lines cpsr scr hcr
+
+    pub nothing-virtual : virtualHere cpsr scr hcr ≡ false → Nothing ≡ found lines cpsr scr hcr
+    nothing-virtual n = rest (rw (serror-is, fiq-is, irq-is, n))
+
+    pub first-virtual-serror : virtualHere cpsr scr hcr ≡ true → takesVirtual serror 0 cpsr hcr ≡ true
+        → First VirtualSError ≡ found lines cpsr scr hcr
+    first-virtual-serror n s = rest (rw (serror-is, n, s))
+
+    pub first-virtual-fiq : virtualHere cpsr scr hcr ≡ true → takesVirtual serror 0 cpsr hcr ≡ false
+        → takesVirtual fiq lines cpsr hcr ≡ true → First VirtualFiq ≡ found lines cpsr scr hcr
+    first-virtual-fiq n s f = rest (rw (serror-is, fiq-is, n, s, f))
+
+    pub first-virtual-irq : {t : Bool} → virtualHere cpsr scr hcr ≡ true → takesVirtual serror 0 cpsr hcr ≡ false
+        → takesVirtual fiq lines cpsr hcr ≡ false → takesVirtual irq lines cpsr hcr ≡ t
+        → (if t then First VirtualIrq else Nothing) ≡ found lines cpsr scr hcr
+    first-virtual-irq n s f i = rest (rw (serror-is, fiq-is, irq-is, n, s, f, i))

@@ -1,0 +1,33 @@
+-- The definition's tests.
+use borrow.Author.Needs.{needs}
+use Rattle.interrupts.proofs.takeable.takes_virtual_fiq.Statement.{statement}
+use Rattle.interrupts.proofs.takeable.takes_virtual_fiq.Tie as tie
+
+hcr-fmo-requires : tie.Need-hcr-fmo-requires
+hcr-fmo-requires c κs = search needs
+
+hcr-vf-requires : tie.Need-hcr-vf-requires
+hcr-vf-requires c κs = search needs
+
+either-requires : tie.Need-either-requires
+either-requires c κs = search needs
+
+cpsr-f-requires : tie.Need-cpsr-f-requires
+cpsr-f-requires c κs = search needs
+
+takes-virtual-requires : tie.Need-takes-virtual-requires
+takes-virtual-requires c κs = search needs
+
+returns : tie.Need-returns
+returns c = cc
+
+pub takes-virtual-fiq-spec : {M : Type 1} → statement M
+takes-virtual-fiq-spec =
+    tie.close
+    (tie.spec
+    hcr-fmo-requires
+    hcr-vf-requires
+    either-requires
+    cpsr-f-requires
+    takes-virtual-requires
+    returns)

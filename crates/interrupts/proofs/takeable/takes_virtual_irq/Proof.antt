@@ -1,0 +1,33 @@
+-- The definition's tests.
+use borrow.Author.Needs.{needs}
+use Rattle.interrupts.proofs.takeable.takes_virtual_irq.Statement.{statement}
+use Rattle.interrupts.proofs.takeable.takes_virtual_irq.Tie as tie
+
+hcr-imo-requires : tie.Need-hcr-imo-requires
+hcr-imo-requires c κs = search needs
+
+hcr-vi-requires : tie.Need-hcr-vi-requires
+hcr-vi-requires c κs = search needs
+
+either-requires : tie.Need-either-requires
+either-requires c κs = search needs
+
+cpsr-i-requires : tie.Need-cpsr-i-requires
+cpsr-i-requires c κs = search needs
+
+takes-virtual-requires : tie.Need-takes-virtual-requires
+takes-virtual-requires c κs = search needs
+
+returns : tie.Need-returns
+returns c = cc
+
+pub takes-virtual-irq-spec : {M : Type 1} → statement M
+takes-virtual-irq-spec =
+    tie.close
+    (tie.spec
+    hcr-imo-requires
+    hcr-vi-requires
+    either-requires
+    cpsr-i-requires
+    takes-virtual-requires
+    returns)

@@ -1,0 +1,6 @@
+pub mod Exception
+pub mod Kind
+pub mod Masking
+pub mod Takeable
+pub mod Check
+pub mod Parts
