@@ -115,13 +115,13 @@ module _ (a cpsr scr hcr pc : ℕ) (fits : pc < 2 ^ 32) where
   -- the two aborts: by the tests, in the order of the rules
   aborts : (own more : ℕ) (n x s g : Bool)
       → (if n then NotHere else
-        if x then Enter MONITOR own (wrap pc more) else
-        if s || g then Enter HYP (offsetTo HYP m own) pc else
-        Enter ABORT own (wrap pc more))
+      if x then Enter MONITOR own (wrap pc more) else
+      if s || g then Enter HYP (offsetTo HYP m own) pc else
+      Enter ABORT own (wrap pc more))
       ≡ (if n then NotHere else
-        Enter (if x || false then MONITOR else (if s || g then HYP else ABORT))
-        (offsetTo (if x || false then MONITOR else (if s || g then HYP else ABORT)) m own)
-        (linkTo (if x || false then MONITOR else (if s || g then HYP else ABORT)) (wrap pc 0) more))
+      Enter (if x || false then MONITOR else (if s || g then HYP else ABORT))
+      (offsetTo (if x || false then MONITOR else (if s || g then HYP else ABORT)) m own)
+      (linkTo (if x || false then MONITOR else (if s || g then HYP else ABORT)) (wrap pc 0) more))
   aborts own more true x s g = refl
   aborts own more false true s g = rw (wrap-before pc more fits)
   aborts own more false false true g = rw (wrap-none pc fits, wrap-none pc fits)

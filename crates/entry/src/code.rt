@@ -1,9 +1,16 @@
 // The codes of the synchronous events (document 01, "Events").
 pub const UNDEFINED_INSTRUCTION: u32 = 1;
+
 pub const SVC: u32 = 2;
+
 pub const SMC: u32 = 3;
+
 pub const HVC: u32 = 4;
+
 pub const PREFETCH_ABORT: u32 = 5;
+
 pub const DATA_ABORT: u32 = 6;
+
 pub const HYP_TRAP: u32 = 7;
+
 pub const MONITOR_TRAP: u32 = 8;

@@ -7,10 +7,15 @@ ghost use Rattle.words.specs.Word.{word};
 ghost use Rattle.state.specs.Mode.{HYP, isTarget};
 ghost use Rattle.state.specs.Place.{BLOCK-SIZE};
 ghost use Rattle.entry.specs.Enter.{
-    nsCleared, masksAfter, cpsrAfter, controlPlace, vectorBase, written, entered
+  nsCleared,
+  masksAfter,
+  cpsrAfter,
+  controlPlace,
+  vectorBase,
+  written,
+  entered,
 };
 ghost use Rattle.entry.specs.Parts.{setsNumber};
-
 use state::field::as_number;
 use state::field::scr_ea;
 use state::field::scr_fiq;
@@ -32,7 +37,10 @@ fn clear_ns(block: &mut [u8], to: u32)
     requires { ⌜ length (now block) ≡ BLOCK-SIZE ⌝ }
     ensures { λ _. ⌜ now (block .exit) ≡ nsCleared (now (block .entry)) to ⌝ }
 {
-    if both(is_monitor(get_word(block, place::CPSR)), to != Mode::HYP.number) {
+    if both(
+        is_monitor(get_word(block, place::CPSR)),
+        to != Mode::HYP.number,
+    ) {
         let scr = get_word(block, place::SCR);
         put_word(block, place::SCR, scr / 2 * 2);
     }
@@ -65,7 +73,11 @@ fn sets(to: u32, scr: u32) -> u32
     ensures { λ r. ⌜ r ≡ setsNumber to scr ⌝ }
     ensures small { λ r. ⌜ r < 8 ⌝ }
 {
-    if to == Mode::HYP.number { hyp_sets(scr) } else { own_sets(to) }
+    if to == Mode::HYP.number {
+        hyp_sets(scr)
+    } else {
+        own_sets(to)
+    }
 }
 
 // The mask bits after an entry: those that were set stay.

@@ -6,12 +6,18 @@ ghost use mathlib.Core.Path.{_≡_};
 ghost use Rattle.state.specs.Field.{mode-field};
 ghost use Rattle.state.specs.Mode.{HYP};
 ghost use Rattle.entry.specs.Code.{
-    UNDEFINED-INSTRUCTION, SVC, SMC, HVC, HYP-TRAP, MONITOR-TRAP, external, stage2
+  UNDEFINED-INSTRUCTION,
+  SVC,
+  SMC,
+  HVC,
+  HYP-TRAP,
+  MONITOR-TRAP,
+  external,
+  stage2,
 };
 ghost use Rattle.entry.specs.Parts.{narrow, generalToHyp, abortWay};
 ghost use Rattle.entry.specs.Route.{offsetTo, linkTo, way};
 ghost use Rattle.entry.specs.declared.route.Way.the-variants.{Enter};
-
 use crate::code;
 use state::field::cpsr_t;
 use state::field::hcr_tge;
@@ -38,14 +44,22 @@ pub enum Way {
 pub fn offset_to(to: u32, from: u32, own: u32) -> u32
     ensures { λ r. ⌜ r ≡ offsetTo to from own ⌝ }
 {
-    if both(to == Mode::HYP.number, from != Mode::HYP.number) { 0x14 } else { own }
+    if both(to == Mode::HYP.number, from != Mode::HYP.number) {
+        0x14
+    } else {
+        own
+    }
 }
 
 // The word for the target's LR: Hyp's has nothing added.
 pub fn link_to(to: u32, back: u32, more: u32) -> u32
     ensures { λ r. ⌜ r ≡ linkTo to back more ⌝ }
 {
-    if to == Mode::HYP.number { back } else { wrapping_add_u32(back, more) }
+    if to == Mode::HYP.number {
+        back
+    } else {
+        wrapping_add_u32(back, more)
+    }
 }
 
 // An entry to Hyp, by its own offset and its return address.

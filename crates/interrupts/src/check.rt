@@ -7,7 +7,6 @@ ghost use Rattle.entry.specs.Route.{linkTo};
 ghost use Rattle.entry.specs.declared.route.Way.the-variants.{Enter};
 ghost use Rattle.interrupts.specs.Check.{found, way, physicalWay};
 ghost use Rattle.interrupts.specs.Kind.{serror, fiq, irq};
-
 use crate::exception::Exception;
 use crate::takeable::is_virtual_here;
 use crate::takeable::takes_fiq;

@@ -6,7 +6,6 @@ ghost use Rattle.interrupts.specs.Kind.{serror, fiq, irq};
 ghost use Rattle.interrupts.specs.Masking.{obeyed};
 ghost use Rattle.interrupts.specs.Parts.{virtualHere, takenIf, takesVirtual};
 ghost use Rattle.interrupts.specs.Takeable.{takeable};
-
 use state::field::cpsr_a;
 use state::field::cpsr_f;
 use state::field::cpsr_i;
@@ -49,7 +48,11 @@ fn takes(line: bool, mask: bool, secure: bool, hyp: bool, m: bool, r: bool, w: b
     ensures { λ v. ⌜ v ≡ (line && not (obeyed secure hyp m r w && mask)) ⌝ }
 {
     if line {
-        if mask { !is_obeyed(secure, hyp, m, r, w) } else { true }
+        if mask {
+            !is_obeyed(secure, hyp, m, r, w)
+        } else {
+            true
+        }
     } else {
         false
     }
@@ -124,11 +127,19 @@ pub fn takes_virtual_serror(cpsr: u32, hcr: u32) -> bool
 pub fn takes_virtual_fiq(lines: u32, cpsr: u32, hcr: u32) -> bool
     ensures { λ v. ⌜ v ≡ takesVirtual fiq lines cpsr hcr ⌝ }
 {
-    takes_virtual(hcr_fmo(hcr), either(hcr_vf(hcr), lines / 8 % 2 == 1), cpsr_f(cpsr))
+    takes_virtual(
+        hcr_fmo(hcr),
+        either(hcr_vf(hcr), lines / 8 % 2 == 1),
+        cpsr_f(cpsr),
+    )
 }
 
 pub fn takes_virtual_irq(lines: u32, cpsr: u32, hcr: u32) -> bool
     ensures { λ v. ⌜ v ≡ takesVirtual irq lines cpsr hcr ⌝ }
 {
-    takes_virtual(hcr_imo(hcr), either(hcr_vi(hcr), lines / 16 % 2 == 1), cpsr_i(cpsr))
+    takes_virtual(
+        hcr_imo(hcr),
+        either(hcr_vi(hcr), lines / 16 % 2 == 1),
+        cpsr_i(cpsr),
+    )
 }

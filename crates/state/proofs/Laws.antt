@@ -39,18 +39,18 @@ ns-user cpsr scr =
 faultBy : Bool → Bool → Bool → Bool → Bool → ℕ
 faultBy kn clear ns held hyp =
     if kn then
-      (if clear then
-        (if ns then (if held then BAD-STATE else DONE) else
-        (if hyp then BAD-STATE else DONE))
-      else BAD-STATE)
+    (if clear then
+    (if ns then (if held then BAD-STATE else DONE) else
+    (if hyp then BAD-STATE else DONE))
+    else BAD-STATE)
     else BAD-MODE
 
 rows : (kn clear ns tge el hyp : Bool)
     → firstOf
-      (record { applies = not kn; number = BAD-MODE }
-      ∷ record { applies = not (kn && (clear && (not (hyp && not ns) && not ((ns && el) && tge)))); number = BAD-STATE }
-      ∷ [])
-      DONE
+    (record { applies = not kn; number = BAD-MODE }
+    ∷ record { applies = not (kn && (clear && (not (hyp && not ns) && not ((ns && el) && tge)))); number = BAD-STATE }
+    ∷ [])
+    DONE
     ≡ faultBy kn clear ns (tge && el) hyp
 unfolding faultBy
 rows false clear ns tge el hyp = refl
@@ -70,7 +70,7 @@ rows true true false tge el false = refl
 module _ (cpsr scr hcr : ℕ) where
   by-tests : faultOf cpsr scr hcr
       ≡ faultBy (known (mode-field cpsr)) (bits 24 21 cpsr is 0) (SCR-NS scr) (HCR-TGE hcr && el1 (mode-field cpsr))
-        (mode-field cpsr is HYP)
+      (mode-field cpsr is HYP)
   unfolding faultOf good
   by-tests =
       rw (ns-el1 cpsr scr)

@@ -2,11 +2,12 @@
 use mathlib.Core.Path.{_≡_, refl}
 use mathlib.Core.Bool.{Bool, true, false}
 use mathlib.Core.List.{List, [], _∷_}
+use mathlib.Core.Logic.{_⊎_, inl, inr}
 use Prim.Native.Nat.{ℕ, _/_, _^_, _<_, _≤_}
 use native.Mathlib.Omega.{arith}
 use lib.Bits.{bitAnd}
 use lib.Dec.{eqb, ltb}
-use borrow.Author.Tests.{ne-eqb, ltb-true}
+use borrow.Author.Tests.{eq-eqb, ne-eqb, ltb-true}
 use Rattle.state.specs.Choice.{if_then_else_, _is_, _among_}
 use Rattle.state.proofs.Test.{same, same-eq, anyBelow, at-below, anyOf, and-left, and-right}
 
@@ -19,9 +20,30 @@ pub in-set : (set : ℕ) (ms : List ℕ) → anyBelow 32 (λ n. same (inSet set 
 in-set set ms h n l =
     same-eq (inSet set n) (n among ms) (at-below 32 (λ n. same (inSet set n) (n among ms)) h n l)
 
--- no number of 32 or more is in a list of smaller ones
-pub among-out : (ms : List ℕ) → anyOf ms (λ m. ltb m 32) ≡ true → (n : ℕ) → 32 ≤ n → false ≡ (n among ms)
-among-out [] h n l = refl
-among-out (m ∷ ms) h n l =
-    let k = ltb-true m 32 (and-left (ltb m 32) (anyOf ms (λ m. ltb m 32)) h) in
-    rw (ne-eqb n m (λ e. omega arith)) (among-out ms (and-right (ltb m 32) (anyOf ms (λ m. ltb m 32)) h) n l)
+-- no number of k or more is in a list of smaller ones
+pub among-out : (k : ℕ) (xs : List ℕ) → anyOf xs (λ x. ltb x k) ≡ true → (n : ℕ) → k ≤ n → (n among xs) ≡ false
+among-out k [] h n l = refl
+among-out k (x ∷ xs) h n l =
+    let b = ltb-true x k (and-left (ltb x k) (anyOf xs (λ x. ltb x k)) h) in
+    rw (ne-eqb n x (λ e. omega arith)) (among-out k xs (and-right (ltb x k) (anyOf xs (λ x. ltb x k)) h) n l)
+
+-- the number is one of those of the list, as the arms of a `match` say it
+abbrev pub OneOf : ℕ → List ℕ → Type 0
+OneOf n [] = ⊥
+OneOf n (x ∷ []) = n ≡ x
+OneOf n (x ∷ y ∷ ys) = (n ≡ x) ⊎ OneOf n (y ∷ ys)
+
+pub one-of-among : (n : ℕ) (xs : List ℕ) → OneOf n xs → (n among xs) ≡ true
+one-of-among n [] h = absurd h
+one-of-among n (x ∷ []) h = rw (eq-eqb n x h)
+one-of-among n (x ∷ y ∷ ys) (inl e) = rw (eq-eqb n x e)
+one-of-among n (x ∷ y ∷ ys) (inr h) = or-true (eqb n x) (one-of-among n (y ∷ ys) h)
+  where
+    or-true : (t : Bool) {u : Bool} → u ≡ true → (if t then true else u) ≡ true
+    or-true true g = refl
+    or-true false g = g
+
+pub none-of-among : (n : ℕ) (xs : List ℕ) → (OneOf n xs → ⊥) → (n among xs) ≡ false
+none-of-among n [] h = refl
+none-of-among n (x ∷ []) h = rw (ne-eqb n x h)
+none-of-among n (x ∷ y ∷ ys) h = rw (ne-eqb n x (λ e. h (inl e))) (none-of-among n (y ∷ ys) (λ k. h (inr k)))

@@ -10,20 +10,17 @@ if_then_else_ true x y = x
 if_then_else_ false x y = y
 
 infixr 10 if_then_else_
-
 -- is the one number the other?
 abbrev pub _is_ : ℕ → ℕ → Bool
 _is_ x y = eqb x y
 
 infix 60 _is_
-
 -- is the number one of these?
 abbrev pub _among_ : ℕ → List ℕ → Bool
 _among_ x [] = false
 _among_ x (y ∷ ys) = if x is y then true else x among ys
 
 infix 60 _among_
-
 -- a row of a list of refusals: whether it applies, and its number
 pub record Row : Type 0 where
   pub applies : Bool

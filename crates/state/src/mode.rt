@@ -3,7 +3,6 @@ ghost use mathlib.Core.Path.{_≡_};
 ghost use lib.Dec.{eqb};
 ghost use Rattle.state.specs.Field.{mode-field};
 ghost use Rattle.state.specs.Mode.{known, el1, guest, spsrPlace, lrPlace};
-
 use crate::place;
 
 pub struct Mode {
@@ -12,18 +11,28 @@ pub struct Mode {
 
 // Sets of modes, bit n for the mode of number n: one shift tells whether a mode is in one.
 const EL1_MODES: u32 = 0x888E_0000;
+
 const GUEST_MODES: u32 = 0x888F_0000;
+
 const MODES: u32 = 0x8CCF_0000;
 
 impl Mode {
     pub const USER: Mode = Mode { number: 0x10 };
+
     pub const FIQ: Mode = Mode { number: 0x11 };
+
     pub const IRQ: Mode = Mode { number: 0x12 };
+
     pub const SUPERVISOR: Mode = Mode { number: 0x13 };
+
     pub const MONITOR: Mode = Mode { number: 0x16 };
+
     pub const ABORT: Mode = Mode { number: 0x17 };
+
     pub const HYP: Mode = Mode { number: 0x1A };
+
     pub const UNDEFINED: Mode = Mode { number: 0x1B };
+
     pub const SYSTEM: Mode = Mode { number: 0x1F };
 
     // The mode that a CPSR word names.
@@ -53,7 +62,11 @@ impl Mode {
         ensures { λ r. ⌜ r ≡ el1 (self .number) ⌝ }
     {
         let n = self.number;
-        if n < 32 { EL1_MODES >> n & 1 == 1 } else { false }
+        if n < 32 {
+            EL1_MODES >> n & 1 == 1
+        } else {
+            false
+        }
     }
 
     // One of those, or User?
@@ -61,7 +74,11 @@ impl Mode {
         ensures { λ r. ⌜ r ≡ guest (self .number) ⌝ }
     {
         let n = self.number;
-        if n < 32 { GUEST_MODES >> n & 1 == 1 } else { false }
+        if n < 32 {
+            GUEST_MODES >> n & 1 == 1
+        } else {
+            false
+        }
     }
 
     // The place of its SPSR; User and System have none.

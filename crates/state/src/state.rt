@@ -6,7 +6,6 @@ ghost use Rattle.state.specs.Choice.{_is_};
 ghost use Rattle.state.specs.Field.{mode-field};
 ghost use Rattle.state.specs.Mode.{USER, MONITOR, HYP, known, el1, guest};
 ghost use Rattle.state.specs.State.{secure, nsEl1, nsUser, faultOf};
-
 use crate::field::hcr_tge;
 use crate::field::scr_ns;
 use crate::mode::Mode;

@@ -27,7 +27,7 @@ sctlr-v-requires c κs = search needs
 
 returns-3 : tie.Need-returns-3
 unfolding vectorBase
-returns-3 c = 
+returns-3 c =
     rw (ne-eqb _ _ (c .before .before .before .before .if1 .left), ne-eqb _ _ (c .before .before .if2 .left), told (c .before .sctlr-v .ensures) (c .if3 .taken))
 
 get-word-requires-3 : tie.Need-get-word-requires-3
@@ -41,12 +41,13 @@ get-word-requires-4 c κs = search needs
 
 returns-4 : tie.Need-returns-4
 unfolding vectorBase
-returns-4 c = 
-    rw
-    (ne-eqb _ _ (c .before .before .before .before .before .before .before .before .if1 .left),
-    ne-eqb _ _ (c .before .before .before .before .before .before .if2 .left),
-    told (c .before .before .before .before .before .sctlr-v .ensures) (c .before .before .before .before .if3 .left),
-    told (c .before .before .scr-ns .ensures ∙ ap SCR-NS (c .before .before .before .get-word3 .ensures)) (c .before .if4 .taken))
+returns-4 c =
+    rw (
+      ne-eqb _ _ (c .before .before .before .before .before .before .before .before .if1 .left),
+      ne-eqb _ _ (c .before .before .before .before .before .before .if2 .left),
+      told (c .before .before .before .before .before .sctlr-v .ensures) (c .before .before .before .before .if3 .left),
+      told (c .before .before .scr-ns .ensures ∙ ap SCR-NS (c .before .before .before .get-word3 .ensures)) (c .before .if4 .taken),
+    )
     (c .get-word4 .ensures)
 
 get-word-requires-5 : tie.Need-get-word-requires-5
@@ -54,12 +55,13 @@ get-word-requires-5 c κs = search needs
 
 returns-5 : tie.Need-returns-5
 unfolding vectorBase
-returns-5 c = 
-    rw
-    (ne-eqb _ _ (c .before .before .before .before .before .before .before .before .if1 .left),
-    ne-eqb _ _ (c .before .before .before .before .before .before .if2 .left),
-    told (c .before .before .before .before .before .sctlr-v .ensures) (c .before .before .before .before .if3 .left),
-    told (c .before .before .scr-ns .ensures ∙ ap SCR-NS (c .before .before .before .get-word3 .ensures)) (c .before .if4 .left))
+returns-5 c =
+    rw (
+      ne-eqb _ _ (c .before .before .before .before .before .before .before .before .if1 .left),
+      ne-eqb _ _ (c .before .before .before .before .before .before .if2 .left),
+      told (c .before .before .before .before .before .sctlr-v .ensures) (c .before .before .before .before .if3 .left),
+      told (c .before .before .scr-ns .ensures ∙ ap SCR-NS (c .before .before .before .get-word3 .ensures)) (c .before .if4 .left),
+    )
     (c .get-word5 .ensures)
 
 pub base-of-spec : {M : Type 1} → statement M

@@ -53,7 +53,7 @@ same-length : tie.Need-same-length
 same-length c = search needs
 
 returns : tie.Need-returns
-returns c = 
+returns c =
     cleared _ _ (c .before .before .before .before .before .before .before .before .before .before .get-word .ensures) (c .before .before .before .before .before .before .before .before .before .is-monitor .ensures) (c .before .before .before .before .before .before .before .both .ensures) (c .before .before .before .before .before .before .if1 .taken) (c .before .before .before .before .get-word2 .ensures)
     (c .before .before .put-word .ensures)
 

@@ -32,22 +32,24 @@ get-word-requires-4 : tie.Need-get-word-requires-4
 get-word-requires-4 c κs = search needs
 
 returns-3 : tie.Need-returns-3
-returns-3 c = 
-    rw
-    (ne-eqb _ _ (c .before .before .before .before .before .before .if1 .left),
-    ne-eqb _ _ (c .before .before .before .before .if2 .left),
-    told (c .before .before .scr-ns .ensures ∙ ap SCR-NS (c .before .before .before .get-word3 .ensures)) (c .before .if3 .taken))
+returns-3 c =
+    rw (
+      ne-eqb _ _ (c .before .before .before .before .before .before .if1 .left),
+      ne-eqb _ _ (c .before .before .before .before .if2 .left),
+      told (c .before .before .scr-ns .ensures ∙ ap SCR-NS (c .before .before .before .get-word3 .ensures)) (c .before .if3 .taken),
+    )
     (c .get-word4 .ensures)
 
 get-word-requires-5 : tie.Need-get-word-requires-5
 get-word-requires-5 c κs = search needs
 
 returns-4 : tie.Need-returns-4
-returns-4 c = 
-    rw
-    (ne-eqb _ _ (c .before .before .before .before .before .before .if1 .left),
-    ne-eqb _ _ (c .before .before .before .before .if2 .left),
-    told (c .before .before .scr-ns .ensures ∙ ap SCR-NS (c .before .before .before .get-word3 .ensures)) (c .before .if3 .left))
+returns-4 c =
+    rw (
+      ne-eqb _ _ (c .before .before .before .before .before .before .if1 .left),
+      ne-eqb _ _ (c .before .before .before .before .if2 .left),
+      told (c .before .before .scr-ns .ensures ∙ ap SCR-NS (c .before .before .before .get-word3 .ensures)) (c .before .if3 .left),
+    )
     (c .get-word5 .ensures)
 
 pub control-of-spec : {M : Type 1} → statement M

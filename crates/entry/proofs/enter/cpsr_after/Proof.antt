@@ -62,7 +62,7 @@ add-result-5 : tie.Need-add-result-5
 add-result-5 c = omega arith
 
 returns : tie.Need-returns
-returns c = 
+returns c =
     whole (c .before .before .before .before .before .args .cpsr) (c .before .before .before .before .before .args .scr) (c .before .before .before .before .before .args .sctlr) (c .before .before .before .before .before .args .to) (moved 9 (c .before .before .before .before .sctlr-ee .ensures) (c .before .before .before .as-number .ensures .0))
     (c .before .before .masks-after .ensures .0) (moved 5 (c .before .sctlr-te .ensures) (c .as-number2 .ensures .0))
 

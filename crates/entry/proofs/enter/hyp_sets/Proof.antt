@@ -44,10 +44,11 @@ add-result-2 : tie.Need-add-result-2
 add-result-2 c = omega arith
 
 returns : tie.Need-returns
-returns c = 
-    (three (c .before .before .before .before .before .scr-ea .ensures) (c .before .before .before .scr-irq .ensures) (c .before .scr-fiq .ensures) (c .before .before .before .before .as-number .ensures .0) (c .before .before .as-number2 .ensures .0)
-    (c .as-number3 .ensures .0),
-    omega arith)
+returns c = (
+  three (c .before .before .before .before .before .scr-ea .ensures) (c .before .before .before .scr-irq .ensures) (c .before .scr-fiq .ensures) (c .before .before .before .before .as-number .ensures .0) (c .before .before .as-number2 .ensures .0)
+      (c .as-number3 .ensures .0),
+  omega arith,
+)
 
 pub hyp-sets-spec : {M : Type 1} → statement M
 hyp-sets-spec =

@@ -11,12 +11,12 @@ sets-requires : tie.Need-sets-requires
 sets-requires c κs = search needs
 
 mul-result : tie.Need-mul-result
-mul-result c = 
+mul-result c =
     let l = masks-small (c .before .args .cpsr) (c .before .args .scr) (c .before .args .to) (c .sets .ensures .0) in
     record { fits = omega arith }
 
 returns : tie.Need-returns
-returns c = 
+returns c =
     let l = masks-small (c .before .args .cpsr) (c .before .args .scr) (c .before .args .to) (c .sets .ensures .0) in
     (masks-are (c .before .args .cpsr) (c .before .args .scr) (c .before .args .to) (c .sets .ensures .0), omega arith)
 

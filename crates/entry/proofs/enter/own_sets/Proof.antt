@@ -23,18 +23,20 @@ returns-6 : tie.Need-returns-6
 returns-6 c = (λ n scr. cc, lit< tt)
 
 returns-7 : tie.Need-returns-7
-returns-7 c = 
-    let k = c .match .rest in
-    (λ n scr.
-      simp
-      (ne-eqb _ _ n,
-      ne-eqb _ _ (k .1),
-      ne-eqb _ _ (k .0 .1),
-      ne-eqb _ _ (k .0 .0 .1),
-      ne-eqb _ _ (k .0 .0 .0 .1),
-      ne-eqb _ _ (k .0 .0 .0 .0 .1),
-      ne-eqb _ _ (k .0 .0 .0 .0 .0 .1)),
-    lit< tt)
+returns-7 c =
+    let k = c .match .rest in (
+      λ n scr.
+          simp (
+            ne-eqb _ _ n,
+            ne-eqb _ _ (k .1),
+            ne-eqb _ _ (k .0 .1),
+            ne-eqb _ _ (k .0 .0 .1),
+            ne-eqb _ _ (k .0 .0 .0 .1),
+            ne-eqb _ _ (k .0 .0 .0 .0 .1),
+            ne-eqb _ _ (k .0 .0 .0 .0 .0 .1),
+          ),
+      lit< tt,
+    )
 
 pub own-sets-spec : {M : Type 1} → statement M
 own-sets-spec =

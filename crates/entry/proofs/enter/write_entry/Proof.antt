@@ -49,7 +49,7 @@ spsr-place-requires : tie.Need-spsr-place-requires
 spsr-place-requires c κs = search needs
 
 put-word-requires : tie.Need-put-word-requires
-put-word-requires c κs = 
+put-word-requires c κs =
     let p = spsr-inside (c .before .before .before .before .before .before .before .before .before .before .args .to) (c .before .before .before .before .before .before .before .before .before .before .pre .1) in
     let e = c .spsr-place .ensures in
     omega arith
@@ -58,7 +58,7 @@ lr-place-requires : tie.Need-lr-place-requires
 lr-place-requires c κs = search needs
 
 put-word-requires-2 : tie.Need-put-word-requires-2
-put-word-requires-2 c κs = 
+put-word-requires-2 c κs =
     let p = lr-inside (c .before .before .before .before .before .before .before .before .before .before .before .before .before .before .before .args .to) (c .before .before .before .before .before .before .before .before .before .before .before .before .before .before .before .pre .1) in
     let e = c .lr-place .ensures in
     omega arith
@@ -76,7 +76,7 @@ same-length : tie.Need-same-length
 same-length c = search needs
 
 returns : tie.Need-returns
-returns c = 
+returns c =
     whole _ _ _ _ _ (c .before .before .before .before .before .before .before .before .before .before .before .before .before .before .before .before .before .before .before .before .before .before .before .before .control-of .ensures) (c .before .before .before .before .before .before .before .before .before .before .before .before .before .before .before .before .before .before .before .before .before .before .get-word .ensures) (c .before .before .before .before .before .before .before .before .before .before .before .before .before .before .before .before .before .before .before .before .before .cpsr-after .ensures) (c .before .before .before .before .before .before .before .before .before .before .before .before .before .before .before .before .before .before .before .base-of .ensures)
     (c .before .before .before .before .before .before .before .before .before .before .before .before .before .before .before .before .before .spsr-place .ensures) (c .before .before .before .before .before .before .before .before .before .before .before .before .lr-place .ensures) (c .before .before .before .before .before .before .before .before .before .before .before .before .before .before .before .before .put-word .ensures) (c .before .before .before .before .before .before .before .before .before .before .before .put-word2 .ensures) (c .before .before .before .before .before .before .before .put-word3 .ensures)
     (c .before .before .before .wrapping-add-u32 .ensures) (c .before .before .put-word4 .ensures)

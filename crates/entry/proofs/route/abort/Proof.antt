@@ -55,7 +55,7 @@ both-requires : tie.Need-both-requires
 both-requires c κs = search needs
 
 returns : tie.Need-returns
-returns c = 
+returns c =
     not-here _ _ _ _ _ _ _
     (told-both-either (c .before .before .before .before .before .is-stage2 .ensures) (c .before .before .before .before .is-secure .ensures) (c .before .before .before .is-hyp .ensures) (c .before .before .either .ensures) (c .before .both .ensures) (c .if1 .taken))
 
@@ -72,11 +72,11 @@ wrapping-add-u32-requires : tie.Need-wrapping-add-u32-requires
 wrapping-add-u32-requires c κs = search needs
 
 returns-2 : tie.Need-returns-2
-returns-2 c = 
+returns-2 c =
     ap (Enter MONITOR (c .before .before .before .before .before .before .before .before .before .before .before .args .own)) (c .wrapping-add-u32 .ensures)
     ∙ to-monitor _ _ _ _ _ _ _
-      (told-both-either (c .before .before .before .before .before .before .before .before .before .before .is-stage2 .ensures) (c .before .before .before .before .before .before .before .before .before .is-secure .ensures) (c .before .before .before .before .before .before .before .before .is-hyp .ensures) (c .before .before .before .before .before .before .before .either .ensures) (c .before .before .before .before .before .before .both .ensures) (c .before .before .before .before .before .if1 .left))
-      (told-both (c .before .before .before .before .is-external .ensures) (c .before .before .before .scr-ea .ensures) (c .before .before .both2 .ensures) (c .before .if2 .taken))
+    (told-both-either (c .before .before .before .before .before .before .before .before .before .before .is-stage2 .ensures) (c .before .before .before .before .before .before .before .before .before .is-secure .ensures) (c .before .before .before .before .before .before .before .before .is-hyp .ensures) (c .before .before .before .before .before .before .before .either .ensures) (c .before .before .before .before .before .before .both .ensures) (c .before .before .before .before .before .if1 .left))
+    (told-both (c .before .before .before .before .is-external .ensures) (c .before .before .before .scr-ea .ensures) (c .before .before .both2 .ensures) (c .before .if2 .taken))
 
 is-stage2-requires-2 : tie.Need-is-stage2-requires-2
 is-stage2-requires-2 c κs = search needs
@@ -91,23 +91,23 @@ enter-hyp-requires : tie.Need-enter-hyp-requires
 enter-hyp-requires c κs = search needs
 
 returns-3 : tie.Need-returns-3
-returns-3 c = 
+returns-3 c =
     c .enter-hyp .ensures
     ∙ to-hyp _ _ _ _ _ _ _
-      (told-both-either (c .before .before .before .before .before .before .before .before .before .before .before .before .before .before .is-stage2 .ensures) (c .before .before .before .before .before .before .before .before .before .before .before .before .before .is-secure .ensures) (c .before .before .before .before .before .before .before .before .before .before .before .before .is-hyp .ensures) (c .before .before .before .before .before .before .before .before .before .before .before .either .ensures) (c .before .before .before .before .before .before .before .before .before .before .both .ensures) (c .before .before .before .before .before .before .before .before .before .if1 .left))
-      (told-both (c .before .before .before .before .before .before .before .before .is-external .ensures) (c .before .before .before .before .before .before .before .scr-ea .ensures) (c .before .before .before .before .before .before .both2 .ensures) (c .before .before .before .before .before .if2 .left))
-      (told-either (c .before .before .before .before .is-stage22 .ensures) (c .before .before .before .general-to-hyp .ensures) (c .before .before .either2 .ensures) (c .before .if3 .taken))
+    (told-both-either (c .before .before .before .before .before .before .before .before .before .before .before .before .before .before .is-stage2 .ensures) (c .before .before .before .before .before .before .before .before .before .before .before .before .before .is-secure .ensures) (c .before .before .before .before .before .before .before .before .before .before .before .before .is-hyp .ensures) (c .before .before .before .before .before .before .before .before .before .before .before .either .ensures) (c .before .before .before .before .before .before .before .before .before .before .both .ensures) (c .before .before .before .before .before .before .before .before .before .if1 .left))
+    (told-both (c .before .before .before .before .before .before .before .before .is-external .ensures) (c .before .before .before .before .before .before .before .scr-ea .ensures) (c .before .before .before .before .before .before .both2 .ensures) (c .before .before .before .before .before .if2 .left))
+    (told-either (c .before .before .before .before .is-stage22 .ensures) (c .before .before .before .general-to-hyp .ensures) (c .before .before .either2 .ensures) (c .before .if3 .taken))
 
 wrapping-add-u32-requires-2 : tie.Need-wrapping-add-u32-requires-2
 wrapping-add-u32-requires-2 c κs = search needs
 
 returns-4 : tie.Need-returns-4
-returns-4 c = 
+returns-4 c =
     ap (Enter ABORT (c .before .before .before .before .before .before .before .before .before .before .before .before .before .before .before .args .own)) (c .wrapping-add-u322 .ensures)
     ∙ to-own _ _ _ _ _ _ _
-      (told-both-either (c .before .before .before .before .before .before .before .before .before .before .before .before .before .before .is-stage2 .ensures) (c .before .before .before .before .before .before .before .before .before .before .before .before .before .is-secure .ensures) (c .before .before .before .before .before .before .before .before .before .before .before .before .is-hyp .ensures) (c .before .before .before .before .before .before .before .before .before .before .before .either .ensures) (c .before .before .before .before .before .before .before .before .before .before .both .ensures) (c .before .before .before .before .before .before .before .before .before .if1 .left))
-      (told-both (c .before .before .before .before .before .before .before .before .is-external .ensures) (c .before .before .before .before .before .before .before .scr-ea .ensures) (c .before .before .before .before .before .before .both2 .ensures) (c .before .before .before .before .before .if2 .left))
-      (told-either (c .before .before .before .before .is-stage22 .ensures) (c .before .before .before .general-to-hyp .ensures) (c .before .before .either2 .ensures) (c .before .if3 .left))
+    (told-both-either (c .before .before .before .before .before .before .before .before .before .before .before .before .before .before .is-stage2 .ensures) (c .before .before .before .before .before .before .before .before .before .before .before .before .before .is-secure .ensures) (c .before .before .before .before .before .before .before .before .before .before .before .before .is-hyp .ensures) (c .before .before .before .before .before .before .before .before .before .before .before .either .ensures) (c .before .before .before .before .before .before .before .before .before .before .both .ensures) (c .before .before .before .before .before .before .before .before .before .if1 .left))
+    (told-both (c .before .before .before .before .before .before .before .before .is-external .ensures) (c .before .before .before .before .before .before .before .scr-ea .ensures) (c .before .before .before .before .before .before .both2 .ensures) (c .before .before .before .before .before .if2 .left))
+    (told-either (c .before .before .before .before .is-stage22 .ensures) (c .before .before .before .general-to-hyp .ensures) (c .before .before .either2 .ensures) (c .before .if3 .left))
 
 pub abort-spec : {M : Type 1} → statement M
 abort-spec =

@@ -20,7 +20,7 @@ either-requires : tie.Need-either-requires
 either-requires c κs = search needs
 
 returns : tie.Need-returns
-returns c = 
+returns c =
     hvc-not-here 0 _ _ _ _ (c .before .before .before .before .fits .pc .fits)
     (told-either (c .before .before .before .is-user .ensures) (c .before .before .is-secure .ensures) (c .before .either .ensures) (c .if1 .taken))
 
@@ -31,11 +31,11 @@ enter-hyp-requires : tie.Need-enter-hyp-requires
 enter-hyp-requires c κs = search needs
 
 returns-2 : tie.Need-returns-2
-returns-2 c = 
+returns-2 c =
     c .enter-hyp .ensures
     ∙ ap (Enter HYP (offsetTo HYP (mode-field (c .before .before .before .before .before .before .args .cpsr)) 0x08)) (c .before .wrapping-add-u32 .ensures)
     ∙ hvc-taken 0 _ _ _ _ (c .before .before .before .before .before .before .fits .pc .fits)
-      (told-either (c .before .before .before .before .before .is-user .ensures) (c .before .before .before .before .is-secure .ensures) (c .before .before .before .either .ensures) (c .before .before .if1 .left))
+    (told-either (c .before .before .before .before .before .is-user .ensures) (c .before .before .before .before .is-secure .ensures) (c .before .before .before .either .ensures) (c .before .before .if1 .left))
 
 pub hvc-spec : {M : Type 1} → statement M
 hvc-spec =

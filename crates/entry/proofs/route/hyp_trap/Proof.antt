@@ -15,12 +15,12 @@ either-requires : tie.Need-either-requires
 either-requires c κs = search needs
 
 returns : tie.Need-returns
-returns c = 
+returns c =
     hyp-trap-not-here 0 _ _ _ _ (c .before .before .before .before .fits .pc .fits)
     (told-either (c .before .before .before .is-secure .ensures) (c .before .before .is-hyp .ensures) (c .before .either .ensures) (c .if1 .taken))
 
 returns-2 : tie.Need-returns-2
-returns-2 c = 
+returns-2 c =
     hyp-trap-taken 0 _ _ _ _ (c .before .before .before .before .fits .pc .fits)
     (told-either (c .before .before .before .is-secure .ensures) (c .before .before .is-hyp .ensures) (c .before .either .ensures) (c .if1 .left))
 

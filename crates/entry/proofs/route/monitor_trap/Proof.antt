@@ -22,7 +22,7 @@ wrapping-add-u32-requires : tie.Need-wrapping-add-u32-requires
 wrapping-add-u32-requires c κs = search needs
 
 returns-2 : tie.Need-returns-2
-returns-2 c = 
+returns-2 c =
     ap (Enter MONITOR 0x04) (c .wrapping-add-u32 .ensures ∙ ap (wrap (c .before .before .before .before .args .pc)) (c .before .narrow-of .ensures))
     ∙ monitor-trap-taken 0 _ _ _ _ (c .before .before .before .before .fits .pc .fits) (told (c .before .before .before .is-monitor .ensures) (c .before .before .if1 .left))
 

@@ -24,7 +24,7 @@ both-requires : tie.Need-both-requires
 both-requires c κs = search needs
 
 returns-2 : tie.Need-returns-2
-returns-2 c = 
+returns-2 c =
     smc-trapped 0 _ _ _ _ (c .before .before .before .before .before .before .fits .pc .fits) (told (c .before .before .before .before .before .is-user .ensures) (c .before .before .before .before .if1 .left))
     (told-both (c .before .before .before .is-ns-el1 .ensures) (c .before .before .hcr-tsc .ensures) (c .before .both .ensures) (c .if2 .taken))
 
@@ -32,10 +32,10 @@ wrapping-add-u32-requires : tie.Need-wrapping-add-u32-requires
 wrapping-add-u32-requires c κs = search needs
 
 returns-3 : tie.Need-returns-3
-returns-3 c = 
+returns-3 c =
     ap (Enter MONITOR 0x08) (c .wrapping-add-u32 .ensures)
     ∙ smc-taken 0 _ _ _ _ (c .before .before .before .before .before .before .before .fits .pc .fits) (told (c .before .before .before .before .before .before .is-user .ensures) (c .before .before .before .before .before .if1 .left))
-      (told-both (c .before .before .before .before .is-ns-el1 .ensures) (c .before .before .before .hcr-tsc .ensures) (c .before .before .both .ensures) (c .before .if2 .left))
+    (told-both (c .before .before .before .before .is-ns-el1 .ensures) (c .before .before .before .hcr-tsc .ensures) (c .before .before .both .ensures) (c .before .if2 .left))
 
 pub smc-spec : {M : Type 1} → statement M
 smc-spec =

@@ -23,14 +23,14 @@ enter-hyp-requires : tie.Need-enter-hyp-requires
 enter-hyp-requires c κs = search needs
 
 returns : tie.Need-returns
-returns c = 
+returns c =
     c .enter-hyp .ensures
     ∙ ap (Enter HYP (offsetTo HYP (mode-field (c .before .before .before .before .before .args .cpsr)) 0x08))
-      (c .before .before .before .wrapping-add-u32 .ensures ∙ ap (wrap (c .before .before .before .before .before .args .pc)) (c .before .before .before .before .narrow-of .ensures))
+    (c .before .before .before .wrapping-add-u32 .ensures ∙ ap (wrap (c .before .before .before .before .before .args .pc)) (c .before .before .before .before .narrow-of .ensures))
     ∙ svc-to-hyp 0 _ _ _ _ (c .before .before .before .before .before .fits .pc .fits) (told (c .before .before .general-to-hyp .ensures) (c .before .if1 .taken))
 
 returns-2 : tie.Need-returns-2
-returns-2 c = 
+returns-2 c =
     ap (Enter SUPERVISOR 0x08) (c .before .before .wrapping-add-u32 .ensures ∙ ap (wrap (c .before .before .before .before .args .pc)) (c .before .before .before .narrow-of .ensures))
     ∙ svc-to-own 0 _ _ _ _ (c .before .before .before .before .fits .pc .fits) (told (c .before .general-to-hyp .ensures) (c .if1 .left))
 

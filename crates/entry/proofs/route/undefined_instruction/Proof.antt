@@ -18,7 +18,7 @@ enter-hyp-requires : tie.Need-enter-hyp-requires
 enter-hyp-requires c κs = search needs
 
 returns : tie.Need-returns
-returns c = 
+returns c =
     c .enter-hyp .ensures
     ∙ undefined-to-hyp 0 _ _ _ _ (c .before .before .before .fits .pc .fits) (told (c .before .before .general-to-hyp .ensures) (c .before .if1 .taken))
 
@@ -29,7 +29,7 @@ wrapping-add-u32-requires : tie.Need-wrapping-add-u32-requires
 wrapping-add-u32-requires c κs = search needs
 
 returns-2 : tie.Need-returns-2
-returns-2 c = 
+returns-2 c =
     ap (Enter UNDEFINED 0x04) (c .wrapping-add-u32 .ensures ∙ ap (wrap (c .before .before .before .before .args .pc)) (c .before .narrow-of .ensures))
     ∙ undefined-to-own 0 _ _ _ _ (c .before .before .before .before .fits .pc .fits) (told (c .before .before .before .general-to-hyp .ensures) (c .before .before .if1 .left))
 

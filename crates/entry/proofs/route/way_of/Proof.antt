@@ -63,17 +63,18 @@ returns-8 c = at _ _ _ _ _ (c .before .match .keys8) (c .monitor-trap .ensures â
 
 returns-9 : tie.Need-returns-9
 unfolding way
-returns-9 c = 
+returns-9 c =
     let n = c .match .rest in
-    simp
-    (ne-eqb _ _ (n .1),
-    ne-eqb _ _ (n .0 .1),
-    ne-eqb _ _ (n .0 .0 .1),
-    ne-eqb _ _ (n .0 .0 .0 .1),
-    ne-eqb _ _ (n .0 .0 .0 .0 .1),
-    ne-eqb _ _ (n .0 .0 .0 .0 .0 .1),
-    ne-eqb _ _ (n .0 .0 .0 .0 .0 .0 .1),
-    ne-eqb _ _ (n .0 .0 .0 .0 .0 .0 .0 .1))
+    simp (
+      ne-eqb _ _ (n .1),
+      ne-eqb _ _ (n .0 .1),
+      ne-eqb _ _ (n .0 .0 .1),
+      ne-eqb _ _ (n .0 .0 .0 .1),
+      ne-eqb _ _ (n .0 .0 .0 .0 .1),
+      ne-eqb _ _ (n .0 .0 .0 .0 .0 .1),
+      ne-eqb _ _ (n .0 .0 .0 .0 .0 .0 .1),
+      ne-eqb _ _ (n .0 .0 .0 .0 .0 .0 .0 .1),
+    )
 
 pub way-of-spec : {M : Type 1} â†’ statement M
 way-of-spec =

@@ -21,7 +21,7 @@ takes-irq-requires : tie.Need-takes-irq-requires
 takes-irq-requires c κs = search needs
 
 returns-3 : tie.Need-returns-3
-returns-3 c = 
+returns-3 c =
     first-irq _ _ _ _ (told (c .before .before .before .before .before .takes-serror .ensures) (c .before .before .before .before .if1 .left)) (told (c .before .before .before .takes-fiq .ensures) (c .before .before .if2 .left))
     (told (c .before .takes-irq .ensures) (c .if3 .taken))
 
@@ -29,7 +29,7 @@ is-virtual-here-requires : tie.Need-is-virtual-here-requires
 is-virtual-here-requires c κs = search needs
 
 returns-4 : tie.Need-returns-4
-returns-4 c = 
+returns-4 c =
     nothing-virtual _ _ _ _ (told (c .before .before .before .before .before .before .before .takes-serror .ensures) (c .before .before .before .before .before .before .if1 .left)) (told (c .before .before .before .before .before .takes-fiq .ensures) (c .before .before .before .before .if2 .left))
     (told (c .before .before .before .takes-irq .ensures) (c .before .before .if3 .left)) (told-not (c .before .is-virtual-here .ensures) (c .if4 .taken))
 
@@ -37,7 +37,7 @@ takes-virtual-serror-requires : tie.Need-takes-virtual-serror-requires
 takes-virtual-serror-requires c κs = search needs
 
 returns-5 : tie.Need-returns-5
-returns-5 c = 
+returns-5 c =
     first-virtual-serror _ _ _ _ (told (c .before .before .before .before .before .before .before .before .before .takes-serror .ensures) (c .before .before .before .before .before .before .before .before .if1 .left)) (told (c .before .before .before .before .before .before .before .takes-fiq .ensures) (c .before .before .before .before .before .before .if2 .left))
     (told (c .before .before .before .before .before .takes-irq .ensures) (c .before .before .before .before .if3 .left)) (told-still (c .before .before .before .is-virtual-here .ensures) (c .before .before .if4 .left))
     (told (c .before .takes-virtual-serror .ensures) (c .if5 .taken))
@@ -46,7 +46,7 @@ takes-virtual-fiq-requires : tie.Need-takes-virtual-fiq-requires
 takes-virtual-fiq-requires c κs = search needs
 
 returns-6 : tie.Need-returns-6
-returns-6 c = 
+returns-6 c =
     first-virtual-fiq _ _ _ _ (told (c .before .before .before .before .before .before .before .before .before .before .before .takes-serror .ensures) (c .before .before .before .before .before .before .before .before .before .before .if1 .left)) (told (c .before .before .before .before .before .before .before .before .before .takes-fiq .ensures) (c .before .before .before .before .before .before .before .before .if2 .left))
     (told (c .before .before .before .before .before .before .before .takes-irq .ensures) (c .before .before .before .before .before .before .if3 .left)) (told-still (c .before .before .before .before .before .is-virtual-here .ensures) (c .before .before .before .before .if4 .left))
     (told (c .before .before .before .takes-virtual-serror .ensures) (c .before .before .if5 .left)) (told (c .before .takes-virtual-fiq .ensures) (c .if6 .taken))
@@ -55,14 +55,14 @@ takes-virtual-irq-requires : tie.Need-takes-virtual-irq-requires
 takes-virtual-irq-requires c κs = search needs
 
 returns-7 : tie.Need-returns-7
-returns-7 c = 
+returns-7 c =
     first-virtual-irq _ _ _ _ (told (c .before .before .before .before .before .before .before .before .before .before .before .before .before .takes-serror .ensures) (c .before .before .before .before .before .before .before .before .before .before .before .before .if1 .left)) (told (c .before .before .before .before .before .before .before .before .before .before .before .takes-fiq .ensures) (c .before .before .before .before .before .before .before .before .before .before .if2 .left))
     (told (c .before .before .before .before .before .before .before .before .before .takes-irq .ensures) (c .before .before .before .before .before .before .before .before .if3 .left)) (told-still (c .before .before .before .before .before .before .before .is-virtual-here .ensures) (c .before .before .before .before .before .before .if4 .left))
     (told (c .before .before .before .before .before .takes-virtual-serror .ensures) (c .before .before .before .before .if5 .left)) (told (c .before .before .before .takes-virtual-fiq .ensures) (c .before .before .if6 .left))
     (told (c .before .takes-virtual-irq .ensures) (c .if7 .taken))
 
 returns-8 : tie.Need-returns-8
-returns-8 c = 
+returns-8 c =
     first-virtual-irq _ _ _ _ (told (c .before .before .before .before .before .before .before .before .before .before .before .before .before .takes-serror .ensures) (c .before .before .before .before .before .before .before .before .before .before .before .before .if1 .left)) (told (c .before .before .before .before .before .before .before .before .before .before .before .takes-fiq .ensures) (c .before .before .before .before .before .before .before .before .before .before .if2 .left))
     (told (c .before .before .before .before .before .before .before .before .before .takes-irq .ensures) (c .before .before .before .before .before .before .before .before .if3 .left)) (told-still (c .before .before .before .before .before .before .before .is-virtual-here .ensures) (c .before .before .before .before .before .before .if4 .left))
     (told (c .before .before .before .before .before .takes-virtual-serror .ensures) (c .before .before .before .before .if5 .left)) (told (c .before .before .before .takes-virtual-fiq .ensures) (c .before .before .if6 .left))

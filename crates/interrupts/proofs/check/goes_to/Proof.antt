@@ -30,12 +30,12 @@ returns : tie.Need-returns
 returns c = search needs
 
 returns-2 : tie.Need-returns-2
-returns-2 c = 
+returns-2 c =
     let a = c .before .before .before .before .before .args in
     by-tests (a .r) (a .hyp) (a .secure) (a .tge) (a .m) (a .own) (c .before .before .before .before .if1 .left) (c .before .before .before .either .ensures) (c .before .before .both .ensures) (c .before .either2 .ensures) (c .if2 .taken)
 
 returns-3 : tie.Need-returns-3
-returns-3 c = 
+returns-3 c =
     let a = c .before .before .before .before .before .args in
     by-tests (a .r) (a .hyp) (a .secure) (a .tge) (a .m) (a .own) (c .before .before .before .before .if1 .left) (c .before .before .before .either .ensures) (c .before .before .both .ensures) (c .before .either2 .ensures) (c .if2 .left)
 

@@ -18,7 +18,7 @@ mul-if2 : tie.Need-mul-if2
 mul-if2 c = search needs
 
 returns-2 : tie.Need-returns-2
-returns-2 c = 
+returns-2 c =
     not-clear _ _ _ (told-still (c .before .before .is-known .ensures) (c .before .if1 .left)) (ne-eqb _ _ (c .if2 .taken))
 
 scr-ns-requires : tie.Need-scr-ns-requires
@@ -34,7 +34,7 @@ both-requires : tie.Need-both-requires
 both-requires c κs = search needs
 
 returns-3 : tie.Need-returns-3
-returns-3 c = 
+returns-3 c =
     let w = c .before .before .before .before .before .before in
     in-ns _ _ _ (told-still (w .before .before .is-known .ensures) (w .before .if1 .left)) (eq-eqb _ _ (w .if2 .left))
     (told (c .before .before .before .before .before .scr-ns .ensures) (c .before .before .before .before .if3 .taken))
@@ -42,7 +42,7 @@ returns-3 c =
     (c .if4 .taken))
 
 returns-4 : tie.Need-returns-4
-returns-4 c = 
+returns-4 c =
     let w = c .before .before .before .before .before .before in
     in-ns _ _ _ (told-still (w .before .before .is-known .ensures) (w .before .if1 .left)) (eq-eqb _ _ (w .if2 .left))
     (told (c .before .before .before .before .before .scr-ns .ensures) (c .before .before .before .before .if3 .taken))
@@ -53,14 +53,14 @@ is-hyp-requires : tie.Need-is-hyp-requires
 is-hyp-requires c κs = search needs
 
 returns-5 : tie.Need-returns-5
-returns-5 c = 
+returns-5 c =
     let w = c .before .before .before .before in
     in-secure _ _ _ (told-still (w .before .before .is-known .ensures) (w .before .if1 .left)) (eq-eqb _ _ (w .if2 .left))
     (told (c .before .before .before .scr-ns .ensures) (c .before .before .if3 .left))
     (told (c .before .is-hyp .ensures) (c .if5 .taken))
 
 returns-6 : tie.Need-returns-6
-returns-6 c = 
+returns-6 c =
     let w = c .before .before .before .before in
     in-secure _ _ _ (told-still (w .before .before .is-known .ensures) (w .before .if1 .left)) (eq-eqb _ _ (w .if2 .left))
     (told (c .before .before .before .scr-ns .ensures) (c .before .before .if3 .left))

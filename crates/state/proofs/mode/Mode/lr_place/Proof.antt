@@ -42,18 +42,19 @@ returns-9 c = cc
 
 returns-10 : tie.Need-returns-10
 unfolding lrPlace
-returns-10 c = 
+returns-10 c =
     let n = c .match .rest in
-    simp
-    (ne-eqb _ _ (n .1),
-    ne-eqb _ _ (n .0 .1),
-    ne-eqb _ _ (n .0 .0 .1),
-    ne-eqb _ _ (n .0 .0 .0 .1),
-    ne-eqb _ _ (n .0 .0 .0 .0 .1),
-    ne-eqb _ _ (n .0 .0 .0 .0 .0 .1),
-    ne-eqb _ _ (n .0 .0 .0 .0 .0 .0 .1),
-    ne-eqb _ _ (n .0 .0 .0 .0 .0 .0 .0 .1),
-    ne-eqb _ _ (n .0 .0 .0 .0 .0 .0 .0 .0 .1))
+    simp (
+      ne-eqb _ _ (n .1),
+      ne-eqb _ _ (n .0 .1),
+      ne-eqb _ _ (n .0 .0 .1),
+      ne-eqb _ _ (n .0 .0 .0 .1),
+      ne-eqb _ _ (n .0 .0 .0 .0 .1),
+      ne-eqb _ _ (n .0 .0 .0 .0 .0 .1),
+      ne-eqb _ _ (n .0 .0 .0 .0 .0 .0 .1),
+      ne-eqb _ _ (n .0 .0 .0 .0 .0 .0 .0 .1),
+      ne-eqb _ _ (n .0 .0 .0 .0 .0 .0 .0 .0 .1),
+    )
 
 pub lr-place-spec : {M : Type 1} → statement M
 lr-place-spec =

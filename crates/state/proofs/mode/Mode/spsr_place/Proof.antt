@@ -34,16 +34,17 @@ returns-7 c = cc
 
 returns-8 : tie.Need-returns-8
 unfolding spsrPlace
-returns-8 c = 
+returns-8 c =
     let n = c .match .rest in
-    simp
-    (ne-eqb _ _ (n .1),
-    ne-eqb _ _ (n .0 .1),
-    ne-eqb _ _ (n .0 .0 .1),
-    ne-eqb _ _ (n .0 .0 .0 .1),
-    ne-eqb _ _ (n .0 .0 .0 .0 .1),
-    ne-eqb _ _ (n .0 .0 .0 .0 .0 .1),
-    ne-eqb _ _ (n .0 .0 .0 .0 .0 .0 .1))
+    simp (
+      ne-eqb _ _ (n .1),
+      ne-eqb _ _ (n .0 .1),
+      ne-eqb _ _ (n .0 .0 .1),
+      ne-eqb _ _ (n .0 .0 .0 .1),
+      ne-eqb _ _ (n .0 .0 .0 .0 .1),
+      ne-eqb _ _ (n .0 .0 .0 .0 .0 .1),
+      ne-eqb _ _ (n .0 .0 .0 .0 .0 .0 .1),
+    )
 
 pub spsr-place-spec : {M : Type 1} → statement M
 spsr-place-spec =
