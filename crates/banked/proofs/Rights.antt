@@ -36,35 +36,37 @@ module _ (p : ℕ) (h : 33 ≤ p) where
   set-out : deniedSet p ≡ 0x0001000000010000
   unfolding deniedSet
   set-out =
-      rw
-      (among-out 33 (R8-usr ∷ R9-usr ∷ R10-usr ∷ R11-usr ∷ R12-usr ∷ []) refl p h,
-      ne-eqb p 5 (λ e. omega arith),
-      ne-eqb p 6 (λ e. omega arith),
-      among-out 33 fiq-registers refl p h,
-      among-out 33 irq-registers refl p h,
-      among-out 33 svc-registers refl p h,
-      among-out 33 abt-registers refl p h,
-      among-out 33 und-registers refl p h,
-      among-out 33 mon-registers refl p h,
-      ne-eqb p 24 (λ e. omega arith),
-      among-out 33 (SP-hyp ∷ SPSR-hyp ∷ []) refl p h)
+      rw (
+        among-out 33 (R8-usr ∷ R9-usr ∷ R10-usr ∷ R11-usr ∷ R12-usr ∷ []) refl p h,
+        ne-eqb p 5 (λ e. omega arith),
+        ne-eqb p 6 (λ e. omega arith),
+        among-out 33 fiq-registers refl p h,
+        among-out 33 irq-registers refl p h,
+        among-out 33 svc-registers refl p h,
+        among-out 33 abt-registers refl p h,
+        among-out 33 und-registers refl p h,
+        among-out 33 mon-registers refl p h,
+        ne-eqb p 24 (λ e. omega arith),
+        among-out 33 (SP-hyp ∷ SPSR-hyp ∷ []) refl p h,
+      )
 
   denied-out : (m : ℕ) (sec : Bool) → denied p m sec ≡ (m is USER)
   unfolding denied
   denied-out m sec =
-      rw
-      (among-out 33 (R8-usr ∷ R9-usr ∷ R10-usr ∷ R11-usr ∷ R12-usr ∷ []) refl p h,
-      ne-eqb p 5 (λ e. omega arith),
-      ne-eqb p 6 (λ e. omega arith),
-      among-out 33 fiq-registers refl p h,
-      among-out 33 irq-registers refl p h,
-      among-out 33 svc-registers refl p h,
-      among-out 33 abt-registers refl p h,
-      among-out 33 und-registers refl p h,
-      among-out 33 mon-registers refl p h,
-      ne-eqb p 24 (λ e. omega arith),
-      among-out 33 (SP-hyp ∷ SPSR-hyp ∷ []) refl p h,
-      or-false)
+      rw (
+        among-out 33 (R8-usr ∷ R9-usr ∷ R10-usr ∷ R11-usr ∷ R12-usr ∷ []) refl p h,
+        ne-eqb p 5 (λ e. omega arith),
+        ne-eqb p 6 (λ e. omega arith),
+        among-out 33 fiq-registers refl p h,
+        among-out 33 irq-registers refl p h,
+        among-out 33 svc-registers refl p h,
+        among-out 33 abt-registers refl p h,
+        among-out 33 und-registers refl p h,
+        among-out 33 mon-registers refl p h,
+        ne-eqb p 24 (λ e. omega arith),
+        among-out 33 (SP-hyp ∷ SPSR-hyp ∷ []) refl p h,
+        or-false,
+      )
 
 pub set-says : (p m : ℕ) (ns : Bool) → m < 32
     → inSet (deniedSet p) (place-of m ns) ≡ denied p m (not ns || m is MONITOR)

@@ -1,5 +1,6 @@
 // Which exception an entry was (document 01, "Answer numbers" and "The interrupt check").
 ghost use mathlib.Core.Path.{_≡_};
+ghost use Prim.Native.Nat.{_<_};
 ghost use Rattle.interrupts.specs.Exception.{which};
 
 pub enum Exception {
@@ -15,6 +16,7 @@ pub enum Exception {
 // The number that a value reports it by.
 pub fn which_of(x: Exception) -> u32
     ensures { λ r. ⌜ r ≡ which x ⌝ }
+    ensures small { λ r. ⌜ r < 7 ⌝ }
 {
     match x {
         Exception::Synchronous => 0,

@@ -1,0 +1,5 @@
+pub mod Rows
+pub mod Deciding
+pub mod Sound
+pub mod Buffer
+pub mod Stepping

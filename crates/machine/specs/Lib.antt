@@ -1,0 +1,5 @@
+pub mod Event
+pub mod Verdict
+pub mod Refusal
+pub mod Step
+pub mod Parts
