@@ -1,0 +1,2 @@
+// The C face: every exported function, thin and total. How it is done is the business of the crates below.
+pub mod step;
