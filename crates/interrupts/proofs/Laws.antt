@@ -10,7 +10,8 @@ use Rattle.state.specs.State.{nsEl1, nsUser}
 use Rattle.state.proofs.Laws.{ns-el1, ns-user}
 use Rattle.state.proofs.Test.{same, same-eq, anyBit, at-bit}
 use Rattle.interrupts.specs.Check.{firstOf, found}
-use Rattle.interrupts.specs.Exception.{Exception, SError, Fiq, Irq, VirtualSError, VirtualFiq, VirtualIrq, order}
+use native.Mathlib.Omega.{arith}
+use Rattle.interrupts.specs.Exception.{Exception, Synchronous, SError, Fiq, Irq, VirtualSError, VirtualFiq, VirtualIrq, order}
 use Rattle.interrupts.specs.Kind.{Kind, serror, fiq, irq, M, mask, source}
 use Rattle.interrupts.specs.Masking.{obeyed}
 use Rattle.interrupts.specs.Parts.{virtualHere, takenIf, takesVirtual}
@@ -118,3 +119,30 @@ module _ (lines cpsr scr hcr : ℕ) where
         → takesVirtual fiq lines cpsr hcr ≡ false → takesVirtual irq lines cpsr hcr ≡ t
         → (if t then First VirtualIrq else Nothing) ≡ found lines cpsr scr hcr
     first-virtual-irq n s f i = rest (rw (serror-is, fiq-is, irq-is, n, s, f, i))
+
+-- what a check finds is nothing or one of the six
+pub found-cases : (P : Found → Type 0) (lines cpsr scr hcr : ℕ) → P Nothing
+    → ((x : Exception) → (x ≡ Synchronous → ⊥) → takeable x lines cpsr scr hcr ≡ true → P (First x))
+    → P (found lines cpsr scr hcr)
+unfolding found
+found-cases P lines cpsr scr hcr none some =
+    try SError never1 (try Fiq never2 (try Irq never3 (try VirtualSError never4 (try VirtualFiq never5 (try VirtualIrq never6 none)))))
+  where
+    try : (x : Exception) → (x ≡ Synchronous → ⊥) → {r : Found} → P r → P (if takeable x lines cpsr scr hcr then First x else r)
+    try x n {r} h = by (takeable x lines cpsr scr hcr) refl
+      where
+        by : (t : Bool) → takeable x lines cpsr scr hcr ≡ t → P (if t then First x else r)
+        by true e = some x n e
+        by false e = h
+    never1 : SError ≡ Synchronous → ⊥
+    never1 e = let z : _≡_ {A = ℕ} 0 1 = cc in omega arith
+    never2 : Fiq ≡ Synchronous → ⊥
+    never2 e = let z : _≡_ {A = ℕ} 0 1 = cc in omega arith
+    never3 : Irq ≡ Synchronous → ⊥
+    never3 e = let z : _≡_ {A = ℕ} 0 1 = cc in omega arith
+    never4 : VirtualSError ≡ Synchronous → ⊥
+    never4 e = let z : _≡_ {A = ℕ} 0 1 = cc in omega arith
+    never5 : VirtualFiq ≡ Synchronous → ⊥
+    never5 e = let z : _≡_ {A = ℕ} 0 1 = cc in omega arith
+    never6 : VirtualIrq ≡ Synchronous → ⊥
+    never6 e = let z : _≡_ {A = ℕ} 0 1 = cc in omega arith

@@ -69,6 +69,14 @@ not-left : (x y : Bool) → (not x || y) ≡ false → x ≡ true
 not-left true y h = refl
 not-left false y h = sym h
 
+-- a well formed event whose code is none of the last four is synchronous
+pub known-code : (code a w : ℕ) → badEvent code a w ≡ false → (code is INTERRUPT-CHECK) ≡ false → (code is BANKED-READ) ≡ false
+    → (code is BANKED-WRITE) ≡ false → (code is NOTE) ≡ false → isSynchronous code ≡ true
+unfolding badEvent
+known-code code a w h n9 n10 n11 n12 =
+    let k = not-left (isKnown code) (leb (valuesOfA code) a || (not (takesB code) && not (w is 0))) h in
+    sym (or-false (isSynchronous code)) ∙ rw (n9, n10, n11, n12) at k
+
 -- an event that is well formed, on a good block of the right size, by its code
 module _ (b : List ℕ) (a w : ℕ) (s : (length b is BLOCK-SIZE) ≡ true) (k : unknownMode b ≡ false) (g : notGood b ≡ false) where
   at-check : badEvent INTERRUPT-CHECK a w ≡ false → byCode b INTERRUPT-CHECK a w ≡ action b (event INTERRUPT-CHECK a w)
@@ -160,14 +168,6 @@ module _ (b : List ℕ) (a w : ℕ) (s : (length b is BLOCK-SIZE) ≡ true) (k :
       by true e = rw (s, k, g, h, y, e, n9, n10, n11, n12)
       by false e = rw (s, k, g, h, y, e, n9, n10, n11, n12)
 
-  -- whatever its code
-  known-code : (code : ℕ) → badEvent code a w ≡ false → (code is INTERRUPT-CHECK) ≡ false → (code is BANKED-READ) ≡ false
-      → (code is BANKED-WRITE) ≡ false → (code is NOTE) ≡ false → isSynchronous code ≡ true
-  unfolding badEvent
-  known-code code h n9 n10 n11 n12 =
-      let k = not-left (isKnown code) (leb (valuesOfA code) a || (not (takesB code) && not (w is 0))) h in
-      sym (or-false (isSynchronous code)) ∙ rw (n9, n10, n11, n12) at k
-
   pub decided : (code : ℕ) → w < 2 ^ 32 → badEvent code a w ≡ false → byCode b code a w ≡ action b (event code a w)
   decided code lw h = by (code is INTERRUPT-CHECK) (code is BANKED-READ) (code is BANKED-WRITE) (code is NOTE) refl refl refl refl
     where
@@ -182,4 +182,4 @@ module _ (b : List ℕ) (a w : ℕ) (s : (length b is BLOCK-SIZE) ≡ true) (k :
       by false false true t12 e9 e10 e11 e12 = at (eqb-true code BANKED-WRITE e11) at-write
       by false false false true e9 e10 e11 e12 = at (eqb-true code NOTE e12) (at-note-code lw)
       by false false false false e9 e10 e11 e12 =
-          at-synchronous code h (known-code code h e9 e10 e11 e12) e9 e10 e11 e12
+          at-synchronous code h (known-code code a w h e9 e10 e11 e12) e9 e10 e11 e12

@@ -3,3 +3,4 @@ pub mod Deciding
 pub mod Sound
 pub mod Buffer
 pub mod Stepping
+pub mod Laws

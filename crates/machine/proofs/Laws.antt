@@ -1,0 +1,207 @@
+-- What a caller of the step expects: it keeps the block's length, bytes stay bytes, and number and value are words.
+use mathlib.Core.Path.{_≡_, refl, sym, ap, _∙_}
+use mathlib.Core.Bool.{Bool, true, false, not, _&&_, _||_}
+use mathlib.Core.List.{List, [], _∷_}
+use Prim.Native.Nat.{ℕ, _+_, _*_, _^_, _<_, _≤_}
+use native.Mathlib.Omega.{arith}
+use lib.Dec.{lit<}
+use borrow.Author.Tests.{eqb-true}
+use lib.ListN.{length}
+use Rattle.words.specs.Word.{word, put, Bytes}
+use Rattle.words.proofs.Laws.{length-put, bytes-put, spelt-fits}
+use Rattle.state.specs.Choice.{if_then_else_, _is_, Row, firstOf}
+use Rattle.state.specs.Field.{mode-field, without}
+use Rattle.state.specs.Mode.{HYP, MONITOR, spsrPlace, lrPlace}
+use Rattle.state.specs.Number.{DONE, NO-RIGHT}
+use Rattle.state.specs.Place.{CPSR, PC, SCR, HCR}
+use Rattle.state.specs.State.{secure}
+use Rattle.entry.specs.Enter.{nsCleared, written, entered}
+use Rattle.entry.specs.Code.{isSynchronous}
+use Rattle.entry.specs.Route as synchronous
+use Rattle.entry.specs.declared.route.Way.{Way}
+use Rattle.entry.specs.declared.route.Way.the-variants.{NotHere, Enter}
+use Rattle.entry.proofs.Targets.{chosen}
+use Rattle.interrupts.specs.Check as interrupt
+use Rattle.interrupts.specs.Exception.{which}
+use Rattle.interrupts.proofs.Laws.{found-cases}
+use Rattle.banked.specs.Cell.{cell}
+use Rattle.interrupts.specs.declared.exception.Exception.{Exception}
+use Rattle.interrupts.specs.declared.exception.Exception.the-variants.{Synchronous, SError, Fiq, Irq, VirtualSError, VirtualFiq, VirtualIrq}
+use Rattle.banked.specs.Right.{denied, right}
+use Rattle.machine.specs.Event.{Event, INTERRUPT-CHECK, BANKED-READ, BANKED-WRITE, NOTE}
+use Rattle.machine.specs.Parts.{Sound}
+use Rattle.machine.specs.Refusal.{rows, refusal}
+use Rattle.machine.specs.Step.{Action, Refuse, Take, Quiet, Read, Put, takenBy, checked, doneAction, vaCleared, answerTo, blockAfter, action, answer, after}
+use Rattle.machine.specs.Verdict.{value}
+use Rattle.machine.proofs.Deciding.{known-code}
+use Rattle.machine.proofs.Rows.{Passed, passed}
+use Rattle.machine.proofs.Sound.{action-sound, target-small}
+
+-- what every word put into a block keeps, an entry and a step keep
+module _ (P : List ℕ → Type 0) (kept : (b : List ℕ) (p w : ℕ) → P b → P (put b p w)) where
+  ns-keeps : (b : List ℕ) (to : ℕ) → P b → P (nsCleared b to)
+  unfolding nsCleared
+  ns-keeps b to h = by (mode-field (word b CPSR) is MONITOR && not (to is HYP))
+    where
+      by : (t : Bool) → P (if t then put b SCR (without 0 (word b SCR)) else b)
+      by true = kept b SCR (without 0 (word b SCR)) h
+      by false = h
+
+  pub entered-keeps : (b : List ℕ) (to offset link : ℕ) → P b → P (entered b to offset link)
+  unfolding entered written
+  entered-keeps b to offset link h = kept _ _ _ (kept _ _ _ (kept _ _ _ (kept _ _ _ (ns-keeps b to h))))
+
+  va-keeps : (b : List ℕ) (x : Exception) → P b → P (vaCleared b x)
+  va-keeps b Synchronous h = h
+  va-keeps b SError h = h
+  va-keeps b Fiq h = h
+  va-keeps b Irq h = h
+  va-keeps b VirtualSError h = kept b HCR (without 8 (word b HCR)) h
+  va-keeps b VirtualFiq h = h
+  va-keeps b VirtualIrq h = h
+
+  pub action-keeps : (b : List ℕ) (x : Action) → P b → P (blockAfter b x)
+  action-keeps b (Refuse n) h = h
+  action-keeps b (Take x to offset link) h = entered-keeps (vaCleared b x) to offset link (va-keeps b x h)
+  action-keeps b (Quiet lines) h = h
+  action-keeps b (Read p) h = h
+  action-keeps b (Put p w) h = kept b p w h
+
+  pub step-keeps : (b : List ℕ) (e : Event) → P b → P (after b e)
+  unfolding after
+  step-keeps b e h = action-keeps b (action b e) h
+
+pub length-after : (b : List ℕ) (e : Event) → length (after b e) ≡ length b
+length-after b e = step-keeps (λ c. length c ≡ length b) (λ c p w h. length-put c p w ∙ h) b e refl
+
+pub bytes-after : (b : List ℕ) (e : Event) → Bytes b → Bytes (after b e)
+bytes-after b e h = step-keeps Bytes bytes-put b e h
+
+-- the numbers of a step are 0 to 7
+abbrev IsNumber : ℕ → Type 0
+IsNumber n = n < 8
+
+right-number : (p cpsr scr : ℕ) → IsNumber (right p cpsr scr)
+unfolding right
+right-number p cpsr scr = chosen IsNumber (denied p (mode-field cpsr) (secure cpsr scr)) (lit< tt) (lit< tt)
+
+-- the first row that applies has a number of one of the rows
+abbrev Numbered : List Row → Type 0
+Numbered [] = Unit {0}
+Numbered (r ∷ rs) = IsNumber (r .number) × Numbered rs
+
+first-number : (rs : List Row) (last : ℕ) → Numbered rs → IsNumber last → IsNumber (firstOf rs last)
+first-number [] last h l = l
+first-number (r ∷ rs) last h l = chosen IsNumber (r .applies) (h .0) (first-number rs last (h .1) l)
+
+refusal-number : (b : List ℕ) (e : Event) → IsNumber (refusal b e)
+unfolding refusal
+refusal-number b e =
+    first-number (rows b e) DONE
+    (lit< tt,
+    (lit< tt,
+    (lit< tt,
+    (lit< tt,
+    (lit< tt,
+    (lit< tt, (right-number (cell (e .a)) (word b CPSR) (word b SCR), (lit< tt, (lit< tt, tt)))))))))
+    (lit< tt)
+
+-- what a done step comes to is answered with DONE
+way-number : (b : List ℕ) (x : Exception) (w : Way) → (w ≡ NotHere → ⊥) → answerTo b (takenBy x w) .number ≡ DONE
+way-number b x NotHere n = absurd (n refl)
+way-number b x (Enter to offset link) n = refl
+
+interrupt-enters : (x : Exception) (cpsr scr hcr pc : ℕ) → (x ≡ Synchronous → ⊥) → interrupt.way x cpsr scr hcr pc ≡ NotHere → ⊥
+unfolding interrupt.way
+interrupt-enters Synchronous cpsr scr hcr pc n e = n refl
+interrupt-enters SError cpsr scr hcr pc n e = let z : _≡_ {A = ℕ} 0 1 = cc in omega arith
+interrupt-enters Fiq cpsr scr hcr pc n e = let z : _≡_ {A = ℕ} 0 1 = cc in omega arith
+interrupt-enters Irq cpsr scr hcr pc n e = let z : _≡_ {A = ℕ} 0 1 = cc in omega arith
+interrupt-enters VirtualSError cpsr scr hcr pc n e = let z : _≡_ {A = ℕ} 0 1 = cc in omega arith
+interrupt-enters VirtualFiq cpsr scr hcr pc n e = let z : _≡_ {A = ℕ} 0 1 = cc in omega arith
+interrupt-enters VirtualIrq cpsr scr hcr pc n e = let z : _≡_ {A = ℕ} 0 1 = cc in omega arith
+
+done-number : (b : List ℕ) (code a w : ℕ) → Passed b (record { code = code; a = a; b = w })
+    → answerTo b (doneAction b (record { code = code; a = a; b = w })) .number ≡ DONE
+unfolding doneAction synchronous.way
+done-number b code a w p =
+    by (code is INTERRUPT-CHECK) (code is BANKED-READ) (code is BANKED-WRITE) (code is NOTE) refl refl refl refl
+  where
+    enters : isSynchronous code ≡ true → synchronous.notHere code a (word b CPSR) (word b SCR) ≡ false
+        → synchronous.way code a (word b CPSR) (word b SCR) (word b HCR) (word b PC) ≡ NotHere → ⊥
+    enters y n e =
+        let q : Enter (synchronous.target code a (word b CPSR) (word b SCR) (word b HCR))
+          (synchronous.offset code a (word b CPSR) (word b SCR) (word b HCR))
+          (synchronous.link code a (word b CPSR) (word b SCR) (word b HCR) (word b PC))
+          ≡ NotHere = rw (y, n) at e in
+        let z : _≡_ {A = ℕ} 0 1 = cc in
+        omega arith
+    by : (t9 t10 t11 t12 : Bool) → (code is INTERRUPT-CHECK) ≡ t9 → (code is BANKED-READ) ≡ t10
+        → (code is BANKED-WRITE) ≡ t11 → (code is NOTE) ≡ t12
+        → answerTo b
+          (if t9 then
+            checked a (word b CPSR) (word b SCR) (word b HCR) (word b PC)
+            (interrupt.found a (word b CPSR) (word b SCR) (word b HCR))
+          else
+          if t10 then Read (cell a) else
+          if t11 then Put (cell a) w else
+          if t12 then Put a w else
+          takenBy Synchronous (synchronous.way code a (word b CPSR) (word b SCR) (word b HCR) (word b PC)))
+          .number
+        ≡ DONE
+    by true t10 t11 t12 e9 e10 e11 e12 =
+        found-cases
+        (λ f. answerTo b (checked a (word b CPSR) (word b SCR) (word b HCR) (word b PC) f) .number ≡ DONE)
+        a (word b CPSR) (word b SCR) (word b HCR) refl
+        (λ x n t.
+          way-number b x (interrupt.way x (word b CPSR) (word b SCR) (word b HCR) (word b PC))
+          (interrupt-enters x (word b CPSR) (word b SCR) (word b HCR) (word b PC) n))
+    by false true t11 t12 e9 e10 e11 e12 = refl
+    by false false true t12 e9 e10 e11 e12 = refl
+    by false false false true e9 e10 e11 e12 = refl
+    by false false false false e9 e10 e11 e12 =
+        let y = known-code code a w (p .event) e9 e10 e11 e12 in
+        let n : synchronous.notHere code a (word b CPSR) (word b SCR) ≡ false = rw y at (p .here) in
+        way-number b Synchronous (synchronous.way code a (word b CPSR) (word b SCR) (word b HCR) (word b PC))
+        (enters y n)
+
+-- a done step answers DONE, and a refused one its number
+pub number-is : (b : List ℕ) (e : Event) → answer b e .number ≡ refusal b e
+unfolding answer action
+number-is b e = by (refusal b e is DONE) refl
+  where
+    by : (t : Bool) → (refusal b e is DONE) ≡ t
+        → answerTo b (if t then doneAction b e else Refuse (refusal b e)) .number ≡ refusal b e
+    by true h =
+        let z = eqb-true (refusal b e) DONE h in
+        done-number b (e .code) (e .a) (e .b) (passed b e z) ∙ sym z
+    by false h = refl
+
+pub number-fits : (b : List ℕ) (e : Event) → answer b e .number < 2 ^ 32
+number-fits b e = let n = refusal-number b e in rw (number-is b e) (omega arith)
+
+-- values are words
+which-small : (x : Exception) → which x < 7
+which-small Synchronous = lit< tt
+which-small SError = lit< tt
+which-small Fiq = lit< tt
+which-small Irq = lit< tt
+which-small VirtualSError = lit< tt
+which-small VirtualFiq = lit< tt
+which-small VirtualIrq = lit< tt
+
+value-small : (b : List ℕ) (x : Action) → Sound x → Bytes b → answerTo b x .value < 2 ^ 32
+unfolding value
+value-small b (Refuse n) s h = lit< tt
+value-small b (Take x to offset link) s h =
+    let w = which-small x in
+    let t = target-small to (s .0) in
+    let o = s .1 in
+    omega arith
+value-small b (Quiet lines) s h = lit< tt
+value-small b (Read p) s h = spelt-fits b (4 * p) h
+value-small b (Put p w) s h = lit< tt
+
+pub value-fits : (b : List ℕ) (e : Event) → Bytes b → answer b e .value < 2 ^ 32
+unfolding answer
+value-fits b e h = value-small b (action b e) (action-sound b e) h
