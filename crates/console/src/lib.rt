@@ -1,2 +1,3 @@
 // The C face: every exported function, thin and total. How it is done is the business of the crates below.
+pub mod check;
 pub mod step;

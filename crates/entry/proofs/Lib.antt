@@ -1,3 +1,5 @@
 pub mod Ways
 pub mod Masks
 pub mod Targets
+pub mod Entered
+pub mod Keeps

@@ -1,3 +1,4 @@
 pub mod Test
 pub mod Sets
 pub mod Laws
+pub mod Good

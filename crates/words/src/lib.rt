@@ -1,4 +1,6 @@
 // Little-endian words in lent bytes. The compiler turns each of these into a single load or store.
+pub mod runs;
+
 ghost use mathlib.Core.Path.{_≡_};
 ghost use Prim.Native.Nat.{_+_, _*_, _≤_};
 ghost use lib.ListN.{length};

@@ -1,0 +1,13 @@
+pub mod Faults
+pub mod Lawful01
+pub mod Records
+pub mod Judging
+pub mod Accepts
+pub mod Outcomes
+pub mod Own
+pub mod Refusals
+pub mod Changes
+pub mod Determined
+pub mod Checkers
+pub mod Cases
+pub mod Theorems

@@ -1,0 +1,89 @@
+-- Words for what the theorems say of a report: what stands before its place, how far the string was judged, what a cut and
+-- a changed trace are, and what it is to be a checker.
+use mathlib.Core.Path.{_≡_}
+use mathlib.Core.Logic.{_↔_}
+use mathlib.Core.List.{List, [], _∷_, _++_}
+use Prim.Native.Nat.{ℕ, zero, suc, _+_, _<_, _≤_}
+use lib.ListN.{length, take, drop}
+use lib.Dec.{eqb, ltb}
+use Rattle.words.specs.Word.{spelt, Bytes}
+use Rattle.state.specs.Choice.{if_then_else_}
+use Rattle.machine.specs.declared.event.Event.{Event}
+use Rattle.machine.specs.declared.verdict.Answer.{Answer}
+use Rattle.trace.specs.declared.Report.{Report}
+use Rattle.trace.specs.Layout.{Layout, headSize, startSize, stepSize, endSize, mostSteps, placeOf, countAt, startBlockAt}
+use Rattle.trace.specs.Published.{AreEvents, startRecord, endRecord, stepShowing, stepRecords, run, Published}
+use Rattle.trace.specs.Report.{eventOf, report, BAD-RECORD}
+
+module _ (L : Layout) where
+  -- s is a published trace, the place is its length, and Steps is how many events it has
+  pub record Accepted (s : List ℕ) (v : Report) : Type 0 where
+    pub whole : Published L s
+    pub place : v .place ≡ length s
+    pub steps : v .steps ≡ length (whole .events)
+
+  -- the first place bytes of s are a right Start and exactly this many right Steps
+  pub record Begun (s : List ℕ) (place steps : ℕ) : Type 0 where
+    pub start : List ℕ
+    pub events : List Event
+    pub count : ℕ
+    pub size : length start ≡ L .size
+    pub bytes : Bytes start
+    pub few : count ≤ mostSteps
+    pub room : length events ≤ count
+    pub words : AreEvents events
+    pub all : length events ≡ steps
+    pub is : take place s ≡ startRecord L count start ++ stepRecords L start events
+
+  -- the first place bytes of s are a whole published trace of this many Steps, and there are more
+  pub record Trailed (s : List ℕ) (place steps : ℕ) : Type 0 where
+    pub whole : Published L (take place s)
+    pub all : length (whole .events) ≡ steps
+    pub more : place < length s
+
+  -- the size of the record that is due at a report's place: Start at 0, then as many Steps as Start counts, then End
+  abbrev pub dueSize : List ℕ → Report → ℕ
+  dueSize s v =
+      if eqb (v .place) 0 then startSize L else
+      if ltb (v .steps) (spelt s countAt) then stepSize L else endSize
+
+  -- where what was judged ends: for 9 the head, else the whole record
+  abbrev pub judgedTo : List ℕ → Report → ℕ
+  judgedTo s v = v .place + (if eqb (v .number) BAD-RECORD then headSize else dueSize s v)
+
+  -- a cut of a trace of n Steps after l bytes falls in the record at this place, or that record is missing, and k whole
+  -- Steps lie before it
+  pub data CutAt (n l : ℕ) : ℕ → ℕ → Type 0 where
+    in-start : l < startSize L → CutAt n l 0 0
+    in-step : (k : ℕ) → k < n → placeOf L k ≤ l → l < placeOf L (suc k) → CutAt n l (placeOf L k) k
+    in-end : placeOf L n ≤ l → l < placeOf L n + endSize → CutAt n l (placeOf L n) n
+
+  -- the record in which a cut after l bytes falls
+  pub record Falls (n l : ℕ) : Type 0 where
+    pub place : ℕ
+    pub steps : ℕ
+    pub at : CutAt n l place steps
+
+  -- the published trace of the events es, e and fs from the block b, but for the Step of e, which shows the answer x and
+  -- the block c
+  unfoldable pub changed : List ℕ → List Event → Event → Answer → List ℕ → List Event → List ℕ
+  changed b es e x c fs =
+      let n = length es + suc (length fs) in
+      startRecord L n b
+      ++ (stepRecords L b es ++ (stepShowing L e x c ++ (stepRecords L (L .after (run L b es) e) fs ++ endRecord n)))
+
+  -- the start block that a trace names, and its events, one for each Step that its Start counts
+  abbrev pub startOf : List ℕ → List ℕ
+  startOf s = take (L .size) (drop startBlockAt s)
+
+  unfoldable pub eventsFrom : ℕ → List ℕ → List Event
+  eventsFrom zero r = []
+  eventsFrom (suc m) r = eventOf r ∷ eventsFrom m (drop (stepSize L) r)
+
+  abbrev pub eventsOf : List ℕ → List Event
+  eventsOf s = eventsFrom (spelt s countAt) (drop (startSize L) s)
+
+  -- what the contract of the checker asks of a function from byte strings to reports
+  pub record Meets (f : List ℕ → Report) : Type 0 where
+    pub reports : (s : List ℕ) → Bytes s → f s ≡ report L s
+    pub exact : (s : List ℕ) → Bytes s → (f s .number ≡ 0) ↔ Published L s

@@ -1,0 +1,5 @@
+pub mod Layout
+pub mod Published
+pub mod Report
+pub mod Judged
+pub mod Claims
