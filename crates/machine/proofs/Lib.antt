@@ -4,3 +4,5 @@ pub mod Sound
 pub mod Buffer
 pub mod Stepping
 pub mod Laws
+pub mod Cases
+pub mod Theorems

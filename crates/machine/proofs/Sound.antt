@@ -83,19 +83,22 @@ or-left false y h = refl
 a-below : (k a : ℕ) (t : Bool) → (leb k a || t) ≡ false → a < k
 a-below k a t h = leb-false k a (or-left (leb k a) t h)
 
-read-a : (a w : ℕ) → badEvent BANKED-READ a w ≡ false → a < 64
+pub read-a : (a w : ℕ) → badEvent BANKED-READ a w ≡ false → a < 64
 unfolding badEvent
 read-a a w h = a-below 64 a (not (w is 0)) h
 
-write-a : (a w : ℕ) → badEvent BANKED-WRITE a w ≡ false → a < 64
+pub write-a : (a w : ℕ) → badEvent BANKED-WRITE a w ≡ false → a < 64
 unfolding badEvent
 write-a a w h = a-below 64 a false h
 
-note-a : (a w : ℕ) → badEvent NOTE a w ≡ false → a < PLACES
+pub note-a : (a w : ℕ) → badEvent NOTE a w ≡ false → a < PLACES
 unfolding badEvent
 note-a a w h = a-below PLACES a false h
 
--- a register that a cell names lies in the block
+-- a register that a cell names lies in the block, below CPSR
+pub inside-registers : (a : ℕ) → a < 64 → (cell a is NO-PLACE) ≡ false → cell a < CPSR
+inside-registers a l h = cell-inside a l (eqb-false (cell a) NO-PLACE h)
+
 inside : (a : ℕ) → a < 64 → (cell a is NO-PLACE) ≡ false → cell a < PLACES
 inside a l h = let p = cell-inside a l (eqb-false (cell a) NO-PLACE h) in omega arith
 

@@ -1,0 +1,104 @@
+-- Statement 7: the starred cases a to j of document 01 ("Numbers to hold against it"), as one list under one statement.
+-- antt computes it.
+use mathlib.Core.Path.{_≡_, refl}
+use mathlib.Core.Bool.{Bool, true, false, _&&_}
+use mathlib.Core.List.{List, [], _∷_}
+use Prim.Native.Nat.{ℕ}
+use lib.Dec.{eqb}
+use lib.ListN.{replicate}
+use Rattle.words.specs.Word.{spelt, word, put}
+use Rattle.state.specs.Mode.{known, el1, guest, spsrPlace, lrPlace}
+use Rattle.state.specs.Number.{DONE, NO-REGISTER, NO-RIGHT}
+use Rattle.state.specs.Place.{BLOCK-SIZE, LR-irq, LR-svc, LR-abt, LR-mon, ELR-hyp, CPSR, PC, SCR, HCR, VBAR-ns}
+use Rattle.state.specs.State.{good}
+use Rattle.entry.specs.Code.{SVC, SMC}
+use Rattle.entry.specs.Enter.{nsCleared, masksAfter, cpsrAfter, vectorBase, written, entered}
+use Rattle.entry.specs.Route as synchronous
+use Rattle.interrupts.specs.Check as interrupt
+use Rattle.interrupts.specs.Masking.{obeyed}
+use Rattle.interrupts.specs.Takeable.{pending, masked, takeable}
+use Rattle.banked.specs.Cell.{cell}
+use Rattle.banked.specs.Right.{denied, right}
+use Rattle.machine.specs.Event.{Event, INTERRUPT-CHECK, BANKED-READ, badEvent}
+use Rattle.machine.specs.Refusal.{refusal}
+use Rattle.machine.specs.Step.{doneAction, action, answer, after}
+use Rattle.machine.specs.Verdict.{value}
+
+-- a place and the word there
+abbrev Words : Type 0
+Words = List (ℕ × ℕ)
+
+-- the words of the start block that are not 0, the event, the answer, and words of the block after it
+record Case : Type 0 where
+  start : Words
+  code : ℕ
+  a : ℕ
+  number : ℕ
+  told : ℕ
+  left : Words
+
+abbrev block : Words → List ℕ
+block [] = replicate BLOCK-SIZE 0
+block (x ∷ xs) = put (block xs) (x .0) (x .1)
+
+abbrev holds : List ℕ → Words → Bool
+holds b [] = true
+holds b (x ∷ xs) = eqb (word b (x .0)) (x .1) && holds b xs
+
+abbrev event : Case → Event
+event c = record { code = c .code; a = c .a; b = 0 }
+
+abbrev right-case : Case → Bool
+right-case c =
+    eqb (answer (block (c .start)) (event c) .number) (c .number)
+    && (eqb (answer (block (c .start)) (event c) .value) (c .told)
+    && holds (after (block (c .start)) (event c)) (c .left))
+
+abbrev all : List Case → Bool
+all [] = true
+all (c ∷ cs) = right-case c && all cs
+
+-- a done step that is not a banked access: start, event, value, words after
+abbrev gives : Words → ℕ → ℕ → ℕ → Words → Case
+gives start code a told left = record { start = start; code = code; a = a; number = DONE; told = told; left = left }
+
+-- a banked access: start, event, answer number
+abbrev answers : Words → ℕ → ℕ → Case
+answers start a number = record { start = start; code = BANKED-READ; a = a; number = number; told = 0; left = [] }
+
+-- "Words not named are 0; PC 0x8000"
+abbrev with : ℕ → ℕ → Words
+with scr cpsr = (SCR, scr) ∷ (CPSR, cpsr) ∷ (PC, 0x8000) ∷ []
+
+abbrev cases : List Case
+cases =
+    -- a
+    gives ((VBAR-ns, 0x10000000) ∷ with 1 0x13) INTERRUPT-CHECK 4 0x31218
+    ((CPSR, 0x192) ∷ (LR-irq, 0x8004) ∷ (PC, 0x10000018) ∷ [])
+    -- b
+    ∷ gives ((VBAR-ns, 0x10000000) ∷ with 3 0x13) INTERRUPT-CHECK 4 0x31618 ((CPSR, 0x1D6) ∷ [])
+    -- c
+    ∷ gives (with 3 0x93) INTERRUPT-CHECK 4 0 ((CPSR, 0x93) ∷ (PC, 0x8000) ∷ (SCR, 3) ∷ [])
+    -- d
+    ∷ gives ((HCR, 0x10) ∷ with 1 0x93) INTERRUPT-CHECK 4 0x31A18 ((CPSR, 0x1DA) ∷ (ELR-hyp, 0x8000) ∷ [])
+    -- e, and with SCR 0x15
+    ∷ gives (with 5 0x53) INTERRUPT-CHECK 2 0x2161C []
+    ∷ gives (with 0x15 0x53) INTERRUPT-CHECK 2 0 []
+    -- f
+    ∷ gives ((HCR, 0x120) ∷ with 1 0x13) INTERRUPT-CHECK 0 0x41710 ((HCR, 0x20) ∷ (LR-abt, 0x8008) ∷ [])
+    -- g
+    ∷ gives ((PC, 0xFFFFFFFE) ∷ with 1 0x30) SVC 0 0x1308 ((LR-svc, 0) ∷ (CPSR, 0x93) ∷ [])
+    -- h
+    ∷ gives (with 1 0x16) SMC 0 0x1608 ((SCR, 0) ∷ (LR-mon, 0x8004) ∷ [])
+    -- i, and from 0x16
+    ∷ answers (with 1 0x13) 31 NO-RIGHT
+    ∷ answers (with 1 0x16) 31 DONE
+    -- j, with A 62 and with A 7
+    ∷ answers (with 1 0x1A) 30 DONE
+    ∷ answers (with 1 0x1A) 62 NO-RIGHT
+    ∷ answers (with 1 0x1A) 7 NO-REGISTER
+    ∷ []
+
+pub starred : all cases ≡ true
+unfolding spelt put known el1 guest spsrPlace lrPlace good nsCleared masksAfter cpsrAfter vectorBase written entered synchronous.toMonitor synchronous.toHyp synchronous.target synchronous.offset synchronous.link synchronous.notHere synchronous.way interrupt.found interrupt.way obeyed pending masked takeable cell denied right badEvent refusal doneAction action answer after value
+starred = refl
