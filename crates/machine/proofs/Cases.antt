@@ -25,7 +25,7 @@ use Rattle.machine.specs.Step.{doneAction, action, answer, after}
 use Rattle.machine.specs.Verdict.{value}
 
 -- a place and the word there
-abbrev Words : Type 0
+abbrev pub Words : Type 0
 Words = List (ℕ × ℕ)
 
 -- the words of the start block that are not 0, the event, the answer, and words of the block after it
@@ -37,7 +37,7 @@ record Case : Type 0 where
   told : ℕ
   left : Words
 
-abbrev block : Words → List ℕ
+abbrev pub block : Words → List ℕ
 block [] = replicate BLOCK-SIZE 0
 block (x ∷ xs) = put (block xs) (x .0) (x .1)
 
@@ -67,7 +67,7 @@ abbrev answers : Words → ℕ → ℕ → Case
 answers start a number = record { start = start; code = BANKED-READ; a = a; number = number; told = 0; left = [] }
 
 -- "Words not named are 0; PC 0x8000"
-abbrev with : ℕ → ℕ → Words
+abbrev pub with : ℕ → ℕ → Words
 with scr cpsr = (SCR, scr) ∷ (CPSR, cpsr) ∷ (PC, 0x8000) ∷ []
 
 abbrev cases : List Case

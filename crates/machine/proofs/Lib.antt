@@ -6,3 +6,4 @@ pub mod Stepping
 pub mod Laws
 pub mod Cases
 pub mod Theorems
+pub mod Wrong

@@ -20,7 +20,7 @@ use Rattle.state.specs.State.{secure, nsUser, nsEl1, fault, faultOf}
 use Rattle.state.proofs.Good.{Good, parts-of-good, good-by-parts}
 use Rattle.state.proofs.Test.{and-left, and-right}
 use Rattle.entry.specs.Code.{isSynchronous}
-use Rattle.entry.specs.Enter.{entered}
+use Rattle.entry.specs.Enter.{nsCleared, cpsrAfter, controlPlace, vectorBase, vector, entered}
 use Rattle.entry.specs.Route as synchronous
 use Rattle.entry.specs.declared.route.Way.{Way}
 use Rattle.entry.specs.declared.route.Way.the-variants.{NotHere, Enter}
@@ -44,7 +44,8 @@ use Rattle.machine.specs.Verdict.{Answer, refusedWith}
 use Rattle.machine.proofs.Deciding.{known-code}
 use Rattle.machine.proofs.Laws.{number-is}
 use Rattle.machine.proofs.Rows.{Passed, passed}
-use Rattle.machine.proofs.Sound.{read-a, write-a, note-a, inside-registers}
+use Rattle.machine.specs.Parts.{Sound}
+use Rattle.machine.proofs.Sound.{write-a, inside-registers, action-sound}
 
 -- ---- statement 3: each number is given exactly when its row applies and no lower one does
 
@@ -333,3 +334,86 @@ good-stays b e bytes h =
     let size = eqb-true (length b) BLOCK-SIZE (not-false (length b is BLOCK-SIZE) (p .sized)) in
     let f = clear-fault b (p .mode) (p .good) in
     (f, rw (left b e h) (done-good b (e .code) (e .a) (e .b) bytes size f p))
+
+-- ---- statement 5: what an entry leaves, once over the target
+
+module _ (b : List ℕ) (e : Event) (bytes : Bytes b) (x : Exception) (to offset link : ℕ)
+    (taken : action b e ≡ Take x to offset link) where
+  is-done : refusal b e ≡ DONE
+  unfolding action
+  is-done = by (refusal b e is DONE) refl taken
+    where
+      by : (t : Bool) → (refusal b e is DONE) ≡ t → (if t then doneAction b e else Refuse (refusal b e)) ≡ Take x to offset link
+          → refusal b e ≡ DONE
+      by true q h = eqb-true (refusal b e) DONE q
+      by false q h = let z : _≡_ {A = ℕ} 0 1 = cc in absurd (eqb-false 0 1 refl z)
+
+  sized-block : length b ≡ BLOCK-SIZE
+  sized-block = eqb-true (length b) BLOCK-SIZE (not-false (length b is BLOCK-SIZE) (passed b e is-done .sized))
+
+  a-target : isTarget to ≡ true
+  a-target = sound-take taken (action-sound b e) .0
+    where
+      sound-take : {y : Action} → y ≡ Take x to offset link → Sound y → Sound (Take x to offset link)
+      sound-take q h = rw q at h
+
+  is-entered : after b e ≡ entered (vaCleared b x) to offset link
+  unfolding after
+  is-entered = ap (blockAfter b) taken
+
+  abbrev v : List ℕ
+  v = vaCleared b x
+
+  at : (q : ℕ) → word (after b e) q ≡ word (entered v to offset link) q
+  at q = ap (λ (l : List ℕ). word l q) is-entered
+
+  alike : Alike b sized-block bytes v
+  alike = alike-cleared b sized-block bytes x
+
+  -- the target's SPSR takes the old CPSR word, whose bits 24 to 21 are zero
+  pub entry-saves : word (after b e) (spsrPlace to) ≡ word b CPSR
+  entry-saves =
+      at (spsrPlace to) ∙ entry.saved-word v to (alike .0) (alike .1 .0) offset link a-target ∙ alike .1 .1 .0
+
+  pub entry-saves-clear : bits 24 21 (word (after b e) (spsrPlace to)) ≡ 0
+  entry-saves-clear =
+      ap (bits 24 21) entry-saves ∙ eqb-true (bits 24 21 (word b CPSR)) 0 (goods b (good-stays b e bytes is-done .0) .clear)
+
+  -- the mode is the target's, and its return address is the link
+  pub entry-mode : mode-field (word (after b e) CPSR) ≡ to
+  entry-mode = ap mode-field (at CPSR) ∙ entry.mode-entered v to (alike .0) (alike .1 .0) offset link a-target
+
+  pub entry-links : link < 2 ^ 32 → word (after b e) (lrPlace to) ≡ link
+  entry-links h = at (lrPlace to) ∙ entry.return-word v to (alike .0) (alike .1 .0) offset link a-target h
+
+  -- masks, T, E, IT, IL and the flags, and the vector: the whole words
+  pub entry-cpsr : word (after b e) CPSR
+      ≡ cpsrAfter (word b CPSR) (word (nsCleared v to) SCR) (word (nsCleared v to) (controlPlace (nsCleared v to) to)) to
+  entry-cpsr =
+      at CPSR ∙ entry.cpsr-word v to (alike .0) (alike .1 .0) offset link a-target
+      ∙ ap
+        (λ (w : ℕ). cpsrAfter w (word (nsCleared v to) SCR) (word (nsCleared v to) (controlPlace (nsCleared v to) to)) to)
+        (alike .1 .1 .0)
+
+  pub entry-vector : word (after b e) PC
+      ≡ vector (vectorBase (nsCleared v to) to (word (nsCleared v to) (controlPlace (nsCleared v to) to))) offset
+  entry-vector = at PC ∙ entry.vector-word v to (alike .0) (alike .1 .0) offset link a-target
+
+  -- no word but those the paper names changes: the target's SPSR and LR, CPSR, PC, SCR (its NS) and HCR (its VA)
+  va-other : (y : Exception) (q : ℕ) → (HCR ≡ q → ⊥) → word (vaCleared b y) q ≡ word b q
+  va-other Synchronous q n = refl
+  va-other SError q n = refl
+  va-other Fiq q n = refl
+  va-other Irq q n = refl
+  va-other VirtualSError q n = word-put-other b HCR (without 8 (word b HCR)) q n
+  va-other VirtualFiq q n = refl
+  va-other VirtualIrq q n = refl
+
+  pub entry-others : (q : ℕ) → (spsrPlace to ≡ q → ⊥) → (lrPlace to ≡ q → ⊥) → (CPSR ≡ q → ⊥) → (PC ≡ q → ⊥) → (SCR ≡ q → ⊥)
+      → (HCR ≡ q → ⊥) → word (after b e) q ≡ word b q
+  entry-others q s l c p n h =
+      at q ∙ entry.other-word v to (alike .0) (alike .1 .0) offset link a-target q s l c p n ∙ va-other x q h
+
+  -- the half-written entry: a block with the right mode and a stale saved state is not what the step leaves
+  pub stale-is-none : (l : List ℕ) → (word l (spsrPlace to) ≡ word b CPSR → ⊥) → l ≡ after b e → ⊥
+  stale-is-none l n h = n (ap (λ (k : List ℕ). word k (spsrPlace to)) h ∙ entry-saves)
