@@ -1,7 +1,6 @@
 // The worked cases a to k of document 01 ("Numbers to hold against it"), run through the shipped step. Each line is a case
 // in the paper's notation; what it must say stands in the file stdout, written by hand from the paper.
 ghost use Prim.Native.Nat.{_≤_, _<_};
-
 use libc::STDOUT_FILENO;
 use machine::event::Event;
 use machine::verdict::Answer;
@@ -18,7 +17,11 @@ fn say(text: &[u8]) {
 // A hexadecimal digit's character, as the paper writes it.
 fn glyph(d: u32) -> u8 {
     let v = d % 16;
-    if v < 10 { ((48 + v) % 256) as u8 } else { ((55 + v) % 256) as u8 }
+    if v < 10 {
+        ((48 + v) % 256) as u8
+    } else {
+        ((55 + v) % 256) as u8
+    }
 }
 
 fn digit(d: u32) {

@@ -4,16 +4,16 @@ ghost use Rattle.machine.specs.Step.{numberReturned, blockLeft, answerLeft};
 
 // The number is returned, and number and value are written to the answer buffer. On BAD_SIZE neither buffer changes.
 #[no_mangle]
-pub extern "C" fn pomurica_step(block: &mut [u8], code: u32, a: u32, b: u32, answer: &mut [u8]) -> u32
-    ensures number {
-        λ r. ⌜ r ≡ numberReturned (now (block .entry)) (record { code = code; a = a; b = b }) (now (answer .entry)) ⌝
-    }
-    ensures leaves {
-        λ _. ⌜ now (block .exit) ≡ blockLeft (now (block .entry)) (record { code = code; a = a; b = b }) (now (answer .entry)) ⌝
-    }
-    ensures answers {
-        λ _. ⌜ now (answer .exit) ≡ answerLeft (now (block .entry)) (record { code = code; a = a; b = b }) (now (answer .entry)) ⌝
-    }
+pub extern "C" fn pomurica_step(
+    block: &mut [u8],
+    code: u32,
+    a: u32,
+    b: u32,
+    answer: &mut [u8],
+) -> u32
+    ensures number { λ r. ⌜ r ≡ numberReturned (now (block .entry)) (record { code = code; a = a; b = b }) (now (answer .entry)) ⌝ }
+    ensures leaves { λ _. ⌜ now (block .exit) ≡ blockLeft (now (block .entry)) (record { code = code; a = a; b = b }) (now (answer .entry)) ⌝ }
+    ensures answers { λ _. ⌜ now (answer .exit) ≡ answerLeft (now (block .entry)) (record { code = code; a = a; b = b }) (now (answer .entry)) ⌝ }
 {
     machine::step::step(block, code, a, b, answer)
 }

@@ -57,12 +57,13 @@ module _ (cpsr scr sctlr to : ℕ) where
       ≡ cpsr / 0x8000000 % 32 * 0x8000000 + cpsr / 0x10000 % 16 * 0x10000 + e * 512 + (a * 256 + i * 128 + f * 64) + t * 32 + to % 32
   unfolding cpsrAfter masksAfter
   is-sum =
-      rw
-      (← flag-moved 9 (SCTLR-EE sctlr),
-      ← flag-moved 8 (CPSR-A cpsr || setsA to scr),
-      ← flag-moved 7 (CPSR-I cpsr || setsI to scr),
-      ← flag-moved 6 (CPSR-F cpsr || setsF to scr),
-      ← flag-moved 5 (SCTLR-TE sctlr))
+      rw (
+        ← flag-moved 9 (SCTLR-EE sctlr),
+        ← flag-moved 8 (CPSR-A cpsr || setsA to scr),
+        ← flag-moved 7 (CPSR-I cpsr || setsI to scr),
+        ← flag-moved 6 (CPSR-F cpsr || setsF to scr),
+        ← flag-moved 5 (SCTLR-TE sctlr),
+      )
 
   pub after-fits : cpsrAfter cpsr scr sctlr to < 2 ^ 32
   after-fits =

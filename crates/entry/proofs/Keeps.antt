@@ -35,7 +35,7 @@ abbrev targetB : ℕ → ℕ → Bool → Bool → Bool → Bool → Bool → Bo
 targetB code m ns ea tsc tge ext two =
     if code is MONITOR-TRAP || ((isAbort code && (ext && ea)) || (code is SMC && not (trappedB code m ns tsc))) then MONITOR else
     if trappedB code m ns tsc || (code is HYP-TRAP || (code is HVC || ((isAbort code && two)
-      || (isGeneral code && (m is HYP || ((not (secureB m ns) && m is USER) && tge)))))) then HYP else
+    || (isGeneral code && (m is HYP || ((not (secureB m ns) && m is USER) && tge)))))) then HYP else
     ownMode code
 
 target-bits : (code a cpsr scr hcr : ℕ)
@@ -93,13 +93,13 @@ target-stands code a cpsr scr hcr g c n =
     let two = stage2 a in
     let at : everywhere m code ≡ true = at-one codes (everywhere m) (at-one modes (λ m. anyOf codes (everywhere m)) tried m (g .known-mode)) code c in
     let k : keeps m code ns ea tsc tge ext two ≡ true =
-      at-bit (λ two. keeps m code ns ea tsc tge ext two)
-      (at-bit (λ ext. anyBit (λ two. keeps m code ns ea tsc tge ext two))
-      (at-bit (λ tge. anyBit (λ ext. anyBit (λ two. keeps m code ns ea tsc tge ext two)))
-      (at-bit (λ tsc. anyBit (λ tge. anyBit (λ ext. anyBit (λ two. keeps m code ns ea tsc tge ext two))))
-      (at-bit (λ ea. anyBit (λ tsc. anyBit (λ tge. anyBit (λ ext. anyBit (λ two. keeps m code ns ea tsc tge ext two)))))
-      (at-bit (λ ns. anyBit (λ ea. anyBit (λ tsc. anyBit (λ tge. anyBit (λ ext. anyBit (λ two. keeps m code ns ea tsc tge ext two)))))) at
-      ns) ea) tsc) tge) ext) two in
+    at-bit (λ two. keeps m code ns ea tsc tge ext two)
+    (at-bit (λ ext. anyBit (λ two. keeps m code ns ea tsc tge ext two))
+    (at-bit (λ tge. anyBit (λ ext. anyBit (λ two. keeps m code ns ea tsc tge ext two)))
+    (at-bit (λ tsc. anyBit (λ tge. anyBit (λ ext. anyBit (λ two. keeps m code ns ea tsc tge ext two))))
+    (at-bit (λ ea. anyBit (λ tsc. anyBit (λ tge. anyBit (λ ext. anyBit (λ two. keeps m code ns ea tsc tge ext two)))))
+    (at-bit (λ ns. anyBit (λ ea. anyBit (λ tsc. anyBit (λ tge. anyBit (λ ext. anyBit (λ two. keeps m code ns ea tsc tge ext two)))))) at
+    ns) ea) tsc) tge) ext) two in
     let h : not (notHereB code m ns two) ≡ true = ap not (sym (here-bits code a cpsr scr) ∙ n) in
     rw (target-bits code a cpsr scr hcr)
     (implied (stands m ns tge && not (notHereB code m ns two)) (mayStand m (targetB code m ns ea tsc tge ext two) ns tge) k
@@ -130,6 +130,7 @@ module _ (b : List ℕ) (to : ℕ) (size : length b ≡ BLOCK-SIZE) (by : Bytes 
     where
       fits : without 0 (word b SCR) < 2 ^ 32
       fits = let l = spelt-fits b (4 * SCR) by in omega arith
+
       choose : (t : Bool) → SCR-NS (word (if t then put b SCR (without 0 (word b SCR)) else b) SCR) ≡ (SCR-NS (word b SCR) && not t)
       choose true =
           ap SCR-NS (word-put-same b SCR (without 0 (word b SCR)) (omega arith) fits) ∙ cleared-bit (word b SCR) true
@@ -184,7 +185,7 @@ module _ (b : List ℕ) (to : ℕ) (size : length b ≡ BLOCK-SIZE) (by : Bytes 
         let r = lr-low to tgt in
         at SCR
         ∙ written-other c (word b CPSR) to offset link tgt cleared-size SCR (λ e. omega arith) (λ e. omega arith) (λ e. omega arith)
-          (λ e. omega arith)
+        (λ e. omega arith)
 
     -- no other word changes
     pub other-word : (q : ℕ) → (spsrPlace to ≡ q → ⊥) → (lrPlace to ≡ q → ⊥) → (CPSR ≡ q → ⊥) → (PC ≡ q → ⊥) → (SCR ≡ q → ⊥)
@@ -201,7 +202,7 @@ module _ (b : List ℕ) (to : ℕ) (size : length b ≡ BLOCK-SIZE) (by : Bytes 
         let r = lr-low to tgt in
         let ec = ap SCR-NS scr-word ∙ cleared-scr in
         let eh : word l HCR ≡ word b HCR =
-          other-word HCR (λ e. omega arith) (λ e. omega arith) (λ e. omega arith) (λ e. omega arith) (λ e. omega arith) in
+        other-word HCR (λ e. omega arith) (λ e. omega arith) (λ e. omega arith) (λ e. omega arith) (λ e. omega arith) in
         let clear = ap (bits 24 21) cpsr-word ∙ after-clear (word b CPSR) (word c SCR) (word c (controlPlace c to)) to in
         let m = mode-field (word b CPSR) in
         let k = and-left (known to) (stands to (nsAfter m to (SCR-NS (word b SCR))) (HCR-TGE (word b HCR))) h in

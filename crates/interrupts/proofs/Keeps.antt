@@ -48,7 +48,7 @@ physical-stands k cpsr scr hcr g =
     let r = R k scr in
     let om = M k hcr in
     let at : everywhere m own ≡ true =
-      at-one own-modes (everywhere m) (at-one modes (λ m. anyOf own-modes (everywhere m)) tried m (g .known-mode)) own (its-own k) in
+    at-one own-modes (everywhere m) (at-one modes (λ m. anyOf own-modes (everywhere m)) tried m (g .known-mode)) own (its-own k) in
     implied (stands m ns tge) (mayStand m (goesB m ns tge r om own) ns tge)
     (at-bit (keepsPhysical m own ns tge r)
     (at-bit (λ r. anyBit (keepsPhysical m own ns tge r))

@@ -134,15 +134,21 @@ found-cases P lines cpsr scr hcr none some =
         by : (t : Bool) → takeable x lines cpsr scr hcr ≡ t → P (if t then First x else r)
         by true e = some x n e
         by false e = h
+
     never1 : SError ≡ Synchronous → ⊥
     never1 e = let z : _≡_ {A = ℕ} 0 1 = cc in omega arith
+
     never2 : Fiq ≡ Synchronous → ⊥
     never2 e = let z : _≡_ {A = ℕ} 0 1 = cc in omega arith
+
     never3 : Irq ≡ Synchronous → ⊥
     never3 e = let z : _≡_ {A = ℕ} 0 1 = cc in omega arith
+
     never4 : VirtualSError ≡ Synchronous → ⊥
     never4 e = let z : _≡_ {A = ℕ} 0 1 = cc in omega arith
+
     never5 : VirtualFiq ≡ Synchronous → ⊥
     never5 e = let z : _≡_ {A = ℕ} 0 1 = cc in omega arith
+
     never6 : VirtualIrq ≡ Synchronous → ⊥
     never6 e = let z : _≡_ {A = ℕ} 0 1 = cc in omega arith

@@ -97,13 +97,22 @@ first-number (r ∷ rs) last h l = chosen IsNumber (r .applies) (h .0) (first-nu
 refusal-number : (b : List ℕ) (e : Event) → IsNumber (refusal b e)
 unfolding refusal
 refusal-number b e =
-    first-number (rows b e) DONE
-    (lit< tt,
-    (lit< tt,
-    (lit< tt,
-    (lit< tt,
-    (lit< tt,
-    (lit< tt, (right-number (cell (e .a)) (word b CPSR) (word b SCR), (lit< tt, (lit< tt, tt)))))))))
+    first-number (rows b e) DONE (
+      lit< tt,
+      (
+        lit< tt,
+        (
+          lit< tt,
+          (
+            lit< tt,
+            (
+              lit< tt,
+              (lit< tt, (right-number (cell (e .a)) (word b CPSR) (word b SCR), (lit< tt, (lit< tt, tt)))),
+            ),
+          ),
+        ),
+      ),
+    )
     (lit< tt)
 
 -- what a done step comes to is answered with DONE
@@ -131,31 +140,32 @@ done-number b code a w p =
         → synchronous.way code a (word b CPSR) (word b SCR) (word b HCR) (word b PC) ≡ NotHere → ⊥
     enters y n e =
         let q : Enter (synchronous.target code a (word b CPSR) (word b SCR) (word b HCR))
-          (synchronous.offset code a (word b CPSR) (word b SCR) (word b HCR))
-          (synchronous.link code a (word b CPSR) (word b SCR) (word b HCR) (word b PC))
-          ≡ NotHere = rw (y, n) at e in
+        (synchronous.offset code a (word b CPSR) (word b SCR) (word b HCR))
+        (synchronous.link code a (word b CPSR) (word b SCR) (word b HCR) (word b PC))
+        ≡ NotHere = rw (y, n) at e in
         let z : _≡_ {A = ℕ} 0 1 = cc in
         omega arith
+
     by : (t9 t10 t11 t12 : Bool) → (code is INTERRUPT-CHECK) ≡ t9 → (code is BANKED-READ) ≡ t10
         → (code is BANKED-WRITE) ≡ t11 → (code is NOTE) ≡ t12
         → answerTo b
-          (if t9 then
-            checked a (word b CPSR) (word b SCR) (word b HCR) (word b PC)
-            (interrupt.found a (word b CPSR) (word b SCR) (word b HCR))
-          else
-          if t10 then Read (cell a) else
-          if t11 then Put (cell a) w else
-          if t12 then Put a w else
-          takenBy Synchronous (synchronous.way code a (word b CPSR) (word b SCR) (word b HCR) (word b PC)))
-          .number
+        (if t9 then
+        checked a (word b CPSR) (word b SCR) (word b HCR) (word b PC)
+        (interrupt.found a (word b CPSR) (word b SCR) (word b HCR))
+        else
+        if t10 then Read (cell a) else
+        if t11 then Put (cell a) w else
+        if t12 then Put a w else
+        takenBy Synchronous (synchronous.way code a (word b CPSR) (word b SCR) (word b HCR) (word b PC)))
+        .number
         ≡ DONE
     by true t10 t11 t12 e9 e10 e11 e12 =
         found-cases
         (λ f. answerTo b (checked a (word b CPSR) (word b SCR) (word b HCR) (word b PC) f) .number ≡ DONE)
         a (word b CPSR) (word b SCR) (word b HCR) refl
         (λ x n t.
-          way-number b x (interrupt.way x (word b CPSR) (word b SCR) (word b HCR) (word b PC))
-          (interrupt-enters x (word b CPSR) (word b SCR) (word b HCR) (word b PC) n))
+        way-number b x (interrupt.way x (word b CPSR) (word b SCR) (word b HCR) (word b PC))
+        (interrupt-enters x (word b CPSR) (word b SCR) (word b HCR) (word b PC) n))
     by false true t11 t12 e9 e10 e11 e12 = refl
     by false false true t12 e9 e10 e11 e12 = refl
     by false false false true e9 e10 e11 e12 = refl

@@ -158,7 +158,7 @@ module _ (lines cpsr scr hcr : ℕ) where
       by : (s f i vs vf vi : Bool) → can SError ≡ s → can Fiq ≡ f → can Irq ≡ i → can VirtualSError ≡ vs → can VirtualFiq ≡ vf
           → can VirtualIrq ≡ vi
           → Says (if s then First SError else (if f then First Fiq else (if i then First Irq else (if vs then First VirtualSError else
-            (if vf then First VirtualFiq else (if vi then First VirtualIrq else Nothing))))))
+          (if vf then First VirtualFiq else (if vi then First VirtualIrq else Nothing))))))
       by true f i vs vf vi es ef ei evs evf evi = takes-serror es
       by false true i vs vf vi es ef ei evs evf evi = takes-fiq es ef
       by false false true vs vf vi es ef ei evs evf evi = takes-irq es ef ei
@@ -181,6 +181,7 @@ module _ (b : List ℕ) (size : length b ≡ BLOCK-SIZE) (by : Bytes b) where
     where
       above : (w : ℕ) → without 8 w / 2 ^ 9 ≡ w / 2 ^ 9
       above w = omega arith
+
       kept : (w : ℕ) → without 8 w / 2 ^ 27 % 2 ≡ w / 2 ^ 27 % 2
       kept w =
           ap (λ (n : ℕ). n % 2)
@@ -202,12 +203,19 @@ module _ (b : List ℕ) (size : length b ≡ BLOCK-SIZE) (by : Bytes b) where
   alike-cleared Fiq = alike-self
   alike-cleared Irq = alike-self
   alike-cleared VirtualSError =
-      let fits : without 8 (word b HCR) < 2 ^ 32 = let l = spelt-fits b (4 * HCR) by in omega arith in
-      (length-put b HCR (without 8 (word b HCR)) ∙ size,
-      (bytes-put b HCR (without 8 (word b HCR)) by,
-      (word-put-other b HCR (without 8 (word b HCR)) CPSR (λ e. eqb-false HCR CPSR refl e),
-      (word-put-other b HCR (without 8 (word b HCR)) SCR (λ e. eqb-false HCR SCR refl e),
-      ap HCR-TGE (word-put-same b HCR (without 8 (word b HCR)) (omega arith) fits) ∙ tge-kept (word b HCR)))))
+      let fits : without 8 (word b HCR) < 2 ^ 32 = let l = spelt-fits b (4 * HCR) by in omega arith in (
+        length-put b HCR (without 8 (word b HCR)) ∙ size,
+        (
+          bytes-put b HCR (without 8 (word b HCR)) by,
+          (
+            word-put-other b HCR (without 8 (word b HCR)) CPSR (λ e. eqb-false HCR CPSR refl e),
+            (
+              word-put-other b HCR (without 8 (word b HCR)) SCR (λ e. eqb-false HCR SCR refl e),
+              ap HCR-TGE (word-put-same b HCR (without 8 (word b HCR)) (omega arith) fits) ∙ tge-kept (word b HCR),
+            ),
+          ),
+        ),
+      )
   alike-cleared VirtualFiq = alike-self
   alike-cleared VirtualIrq = alike-self
 
@@ -222,11 +230,11 @@ module _ (b : List ℕ) (size : length b ≡ BLOCK-SIZE) (by : Bytes b) where
       let es = a .1 .1 .1 .0 in
       let et = a .1 .1 .1 .1 in
       let gv : Good (word v CPSR) (word v SCR) (word v HCR) =
-        record {
-          known-mode = rw ec (g .known-mode);
-          clear = rw ec (g .clear);
-          standing = rw (ec, es, et) (g .standing);
-        } in
+      record {
+        known-mode = rw ec (g .known-mode);
+        clear = rw ec (g .clear);
+        standing = rw (ec, es, et) (g .standing);
+      } in
       entry.entered-good v to (a .0) (a .1 .0) offset link t gv (rw (ec, es, et) h)
 
   -- by the way that the exception goes
@@ -246,15 +254,17 @@ module _ (b : List ℕ) (size : length b ≡ BLOCK-SIZE) (by : Bytes b) where
       → StandsWay (synchronous.way code a (word b CPSR) (word b SCR) (word b HCR) (word b PC))
   unfolding synchronous.way
   synchronous-stands code a f s n =
-      rw (s, n)
-      (target-is-one code a (word b CPSR) (word b SCR) (word b HCR),
-      entry.target-stands code a (word b CPSR) (word b SCR) (word b HCR) (goods b f) s n)
+      rw (s, n) (
+        target-is-one code a (word b CPSR) (word b SCR) (word b HCR),
+        entry.target-stands code a (word b CPSR) (word b SCR) (word b HCR) (goods b f) s n,
+      )
 
   physical-stands : (k : Kind) → fault b ≡ DONE
       → StandsWay (interrupt.physicalWay k (word b CPSR) (word b SCR) (word b HCR) (word b PC))
-  physical-stands k f =
-      (targets.goes-target k (word b CPSR) (word b SCR) (word b HCR),
-      interrupts.physical-stands k (word b CPSR) (word b SCR) (word b HCR) (goods b f))
+  physical-stands k f = (
+    targets.goes-target k (word b CPSR) (word b SCR) (word b HCR),
+    interrupts.physical-stands k (word b CPSR) (word b SCR) (word b HCR) (goods b f),
+  )
 
   virtual-stands : (k : Kind) (lines : ℕ) → fault b ≡ DONE
       → (virtualPending k lines (word b CPSR) (word b SCR) (word b HCR) && not (mask k (word b CPSR))) ≡ true
@@ -299,23 +309,23 @@ done-good b code a w bytes size f p =
     by : (t9 t10 t11 t12 : Bool) → (code is INTERRUPT-CHECK) ≡ t9 → (code is BANKED-READ) ≡ t10
         → (code is BANKED-WRITE) ≡ t11 → (code is NOTE) ≡ t12
         → fault
-          (blockAfter b
-          (if t9 then
-            checked a (word b CPSR) (word b SCR) (word b HCR) (word b PC)
-            (interrupt.found a (word b CPSR) (word b SCR) (word b HCR))
-          else
-          if t10 then Read (cell a) else
-          if t11 then Put (cell a) w else
-          if t12 then Put a w else
-          takenBy Synchronous (synchronous.way code a (word b CPSR) (word b SCR) (word b HCR) (word b PC))))
+        (blockAfter b
+        (if t9 then
+        checked a (word b CPSR) (word b SCR) (word b HCR) (word b PC)
+        (interrupt.found a (word b CPSR) (word b SCR) (word b HCR))
+        else
+        if t10 then Read (cell a) else
+        if t11 then Put (cell a) w else
+        if t12 then Put a w else
+        takenBy Synchronous (synchronous.way code a (word b CPSR) (word b SCR) (word b HCR) (word b PC))))
         ≡ DONE
     by true t10 t11 t12 e9 e10 e11 e12 =
         found-cases
         (λ x. fault (blockAfter b (checked a (word b CPSR) (word b SCR) (word b HCR) (word b PC) x)) ≡ DONE)
         a (word b CPSR) (word b SCR) (word b HCR) f
         (λ x n t.
-          way-good b size bytes x (interrupt.way x (word b CPSR) (word b SCR) (word b HCR) (word b PC)) f
-          (interrupt-stands b size bytes x a f t))
+        way-good b size bytes x (interrupt.way x (word b CPSR) (word b SCR) (word b HCR) (word b PC)) f
+        (interrupt-stands b size bytes x a f t))
     by false true t11 t12 e9 e10 e11 e12 = f
     by false false true t12 e9 e10 e11 e12 =
         let e = eqb-true code BANKED-WRITE e11 in
@@ -392,8 +402,8 @@ module _ (b : List ℕ) (e : Event) (bytes : Bytes b) (x : Exception) (to offset
   entry-cpsr =
       at CPSR ∙ entry.cpsr-word v to (alike .0) (alike .1 .0) offset link a-target
       ∙ ap
-        (λ (w : ℕ). cpsrAfter w (word (nsCleared v to) SCR) (word (nsCleared v to) (controlPlace (nsCleared v to) to)) to)
-        (alike .1 .1 .0)
+      (λ (w : ℕ). cpsrAfter w (word (nsCleared v to) SCR) (word (nsCleared v to) (controlPlace (nsCleared v to) to)) to)
+      (alike .1 .1 .0)
 
   pub entry-vector : word (after b e) PC
       ≡ vector (vectorBase (nsCleared v to) to (word (nsCleared v to) (controlPlace (nsCleared v to) to))) offset

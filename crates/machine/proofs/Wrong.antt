@@ -95,7 +95,7 @@ stale = refl
 
 pub not-skipping-spsr : (t : List ℕ → Event → Answer) (l : List ℕ → Event → List ℕ)
     → ((b : List ℕ) (e : Event) (x : Exception) (to offset link : ℕ) → action b e ≡ Take x to offset link
-      → word (l b e) (spsrPlace to) ≡ word b (spsrPlace to))
+    → word (l b e) (spsrPlace to) ≡ word b (spsrPlace to))
     → Meets t l → ⊥
 not-skipping-spsr t l h m =
     eqb-false 0x13 0 refl
