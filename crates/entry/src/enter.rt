@@ -24,6 +24,7 @@ use state::field::scr_ns;
 use state::field::sctlr_ee;
 use state::field::sctlr_te;
 use state::field::sctlr_v;
+use state::mode;
 use state::mode::Mode;
 use state::place;
 use state::state::both;
@@ -59,12 +60,12 @@ fn own_sets(to: u32) -> u32
     ensures { λ r. ⌜ ((to ≡ HYP → ⊥) → (scr : ℕ) → r ≡ setsNumber to scr) × (r < 8) ⌝ }
 {
     match to {
-        0x11 => 7,
-        0x12 => 6,
-        0x13 => 2,
-        0x16 => 7,
-        0x17 => 6,
-        0x1B => 2,
+        mode::FIQ => 7,
+        mode::IRQ => 6,
+        mode::SUPERVISOR => 2,
+        mode::MONITOR => 7,
+        mode::ABORT => 6,
+        mode::UNDEFINED => 2,
         _ => 0,
     }
 }

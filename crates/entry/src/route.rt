@@ -19,6 +19,7 @@ ghost use Rattle.entry.specs.Parts.{narrow, generalToHyp, abortWay};
 ghost use Rattle.entry.specs.Route.{offsetTo, linkTo, way};
 ghost use Rattle.entry.specs.declared.route.Way.the-variants.{Enter};
 use crate::code;
+use crate::offset;
 use state::field::cpsr_t;
 use state::field::hcr_tge;
 use state::field::hcr_tsc;
@@ -45,7 +46,7 @@ pub fn offset_to(to: u32, from: u32, own: u32) -> u32
     ensures { λ r. ⌜ r ≡ offsetTo to from own ⌝ }
 {
     if both(to == Mode::HYP.number, from != Mode::HYP.number) {
-        0x14
+        offset::HYP_TRAP
     } else {
         own
     }
@@ -91,11 +92,11 @@ fn undefined_instruction(cpsr: u32, scr: u32, hcr: u32, pc: u32) -> Way
     ensures { λ r. ⌜ r ≡ way UNDEFINED-INSTRUCTION 0 cpsr scr hcr pc ⌝ }
 {
     if general_to_hyp(cpsr, scr, hcr) {
-        return enter_hyp(cpsr, 0x04, pc);
+        return enter_hyp(cpsr, offset::UNDEFINED, pc);
     }
     Way::Enter {
         to: Mode::UNDEFINED.number,
-        offset: 0x04,
+        offset: offset::UNDEFINED,
         link: wrapping_add_u32(pc, narrow_of(cpsr)),
     }
 }
@@ -105,11 +106,11 @@ fn svc(cpsr: u32, scr: u32, hcr: u32, pc: u32) -> Way
 {
     let next = wrapping_add_u32(pc, narrow_of(cpsr));
     if general_to_hyp(cpsr, scr, hcr) {
-        return enter_hyp(cpsr, 0x08, next);
+        return enter_hyp(cpsr, offset::CALL, next);
     }
     Way::Enter {
         to: Mode::SUPERVISOR.number,
-        offset: 0x08,
+        offset: offset::CALL,
         link: next,
     }
 }
@@ -123,13 +124,13 @@ fn smc(cpsr: u32, scr: u32, hcr: u32, pc: u32) -> Way
     if both(is_ns_el1(cpsr, scr), hcr_tsc(hcr)) {
         return Way::Enter {
             to: Mode::HYP.number,
-            offset: 0x14,
+            offset: offset::HYP_TRAP,
             link: pc,
         };
     }
     Way::Enter {
         to: Mode::MONITOR.number,
-        offset: 0x08,
+        offset: offset::CALL,
         link: wrapping_add_u32(pc, 4),
     }
 }
@@ -140,7 +141,7 @@ fn hvc(cpsr: u32, scr: u32, hcr: u32, pc: u32) -> Way
     if either(is_user(cpsr), is_secure(cpsr, scr)) {
         return Way::NotHere;
     }
-    enter_hyp(cpsr, 0x08, wrapping_add_u32(pc, 4))
+    enter_hyp(cpsr, offset::CALL, wrapping_add_u32(pc, 4))
 }
 
 // The two bits of an abort's A.
@@ -188,7 +189,7 @@ fn hyp_trap(cpsr: u32, scr: u32, hcr: u32, pc: u32) -> Way
     }
     Way::Enter {
         to: Mode::HYP.number,
-        offset: 0x14,
+        offset: offset::HYP_TRAP,
         link: pc,
     }
 }
@@ -201,7 +202,7 @@ fn monitor_trap(cpsr: u32, scr: u32, hcr: u32, pc: u32) -> Way
     }
     Way::Enter {
         to: Mode::MONITOR.number,
-        offset: 0x04,
+        offset: offset::MONITOR_TRAP,
         link: wrapping_add_u32(pc, narrow_of(cpsr)),
     }
 }
@@ -215,8 +216,8 @@ pub fn way_of(code: u32, a: u32, cpsr: u32, scr: u32, hcr: u32, pc: u32) -> Way
         code::SVC => svc(cpsr, scr, hcr, pc),
         code::SMC => smc(cpsr, scr, hcr, pc),
         code::HVC => hvc(cpsr, scr, hcr, pc),
-        code::PREFETCH_ABORT => abort(0x0C, 4, a, cpsr, scr, hcr, pc),
-        code::DATA_ABORT => abort(0x10, 8, a, cpsr, scr, hcr, pc),
+        code::PREFETCH_ABORT => abort(offset::PREFETCH_ABORT, 4, a, cpsr, scr, hcr, pc),
+        code::DATA_ABORT => abort(offset::DATA_ABORT, 8, a, cpsr, scr, hcr, pc),
         code::HYP_TRAP => hyp_trap(cpsr, scr, hcr, pc),
         code::MONITOR_TRAP => monitor_trap(cpsr, scr, hcr, pc),
         _ => Way::NotHere,

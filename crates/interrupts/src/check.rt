@@ -15,6 +15,7 @@ use crate::takeable::takes_serror;
 use crate::takeable::takes_virtual_fiq;
 use crate::takeable::takes_virtual_irq;
 use crate::takeable::takes_virtual_serror;
+use entry::offset;
 use entry::route::Way;
 use entry::route::link_to;
 use entry::route::offset_to;
@@ -91,7 +92,7 @@ fn serror_way(cpsr: u32, scr: u32, hcr: u32, pc: u32) -> Way
     );
     Way::Enter {
         to: to,
-        offset: offset_to(to, cpsr % 32, 0x10),
+        offset: offset_to(to, cpsr % 32, offset::SERROR),
         link: link_to(to, pc, 8),
     }
 }
@@ -109,7 +110,7 @@ fn fiq_way(cpsr: u32, scr: u32, hcr: u32, pc: u32) -> Way
     );
     Way::Enter {
         to: to,
-        offset: 0x1C,
+        offset: offset::FIQ,
         link: link_to(to, pc, 4),
     }
 }
@@ -127,7 +128,7 @@ fn irq_way(cpsr: u32, scr: u32, hcr: u32, pc: u32) -> Way
     );
     Way::Enter {
         to: to,
-        offset: 0x18,
+        offset: offset::IRQ,
         link: link_to(to, pc, 4),
     }
 }
@@ -152,8 +153,8 @@ pub fn way_of(x: Exception, cpsr: u32, scr: u32, hcr: u32, pc: u32) -> Way
         Exception::SError => serror_way(cpsr, scr, hcr, pc),
         Exception::Fiq => fiq_way(cpsr, scr, hcr, pc),
         Exception::Irq => irq_way(cpsr, scr, hcr, pc),
-        Exception::VirtualSError => guest_way(Mode::ABORT.number, 0x10, pc, 8),
-        Exception::VirtualFiq => guest_way(Mode::FIQ.number, 0x1C, pc, 4),
-        Exception::VirtualIrq => guest_way(Mode::IRQ.number, 0x18, pc, 4),
+        Exception::VirtualSError => guest_way(Mode::ABORT.number, offset::SERROR, pc, 8),
+        Exception::VirtualFiq => guest_way(Mode::FIQ.number, offset::FIQ, pc, 4),
+        Exception::VirtualIrq => guest_way(Mode::IRQ.number, offset::IRQ, pc, 4),
     }
 }

@@ -5,6 +5,25 @@ ghost use Rattle.state.specs.Field.{mode-field};
 ghost use Rattle.state.specs.Mode.{known, el1, guest, spsrPlace, lrPlace};
 use crate::place;
 
+// The mode numbers.
+pub const USER: u32 = 0x10;
+
+pub const FIQ: u32 = 0x11;
+
+pub const IRQ: u32 = 0x12;
+
+pub const SUPERVISOR: u32 = 0x13;
+
+pub const MONITOR: u32 = 0x16;
+
+pub const ABORT: u32 = 0x17;
+
+pub const HYP: u32 = 0x1A;
+
+pub const UNDEFINED: u32 = 0x1B;
+
+pub const SYSTEM: u32 = 0x1F;
+
 pub struct Mode {
     pub number: u32,
 }
@@ -17,23 +36,23 @@ const GUEST_MODES: u32 = 0x888F_0000;
 const MODES: u32 = 0x8CCF_0000;
 
 impl Mode {
-    pub const USER: Mode = Mode { number: 0x10 };
+    pub const USER: Mode = Mode { number: USER };
 
-    pub const FIQ: Mode = Mode { number: 0x11 };
+    pub const FIQ: Mode = Mode { number: FIQ };
 
-    pub const IRQ: Mode = Mode { number: 0x12 };
+    pub const IRQ: Mode = Mode { number: IRQ };
 
-    pub const SUPERVISOR: Mode = Mode { number: 0x13 };
+    pub const SUPERVISOR: Mode = Mode { number: SUPERVISOR };
 
-    pub const MONITOR: Mode = Mode { number: 0x16 };
+    pub const MONITOR: Mode = Mode { number: MONITOR };
 
-    pub const ABORT: Mode = Mode { number: 0x17 };
+    pub const ABORT: Mode = Mode { number: ABORT };
 
-    pub const HYP: Mode = Mode { number: 0x1A };
+    pub const HYP: Mode = Mode { number: HYP };
 
-    pub const UNDEFINED: Mode = Mode { number: 0x1B };
+    pub const UNDEFINED: Mode = Mode { number: UNDEFINED };
 
-    pub const SYSTEM: Mode = Mode { number: 0x1F };
+    pub const SYSTEM: Mode = Mode { number: SYSTEM };
 
     // The mode that a CPSR word names.
     pub fn of(cpsr: u32) -> Mode
@@ -87,13 +106,13 @@ impl Mode {
     {
         let n = self.number;
         match n {
-            0x11 => place::SPSR_FIQ,
-            0x12 => place::SPSR_IRQ,
-            0x13 => place::SPSR_SVC,
-            0x16 => place::SPSR_MON,
-            0x17 => place::SPSR_ABT,
-            0x1A => place::SPSR_HYP,
-            0x1B => place::SPSR_UND,
+            FIQ => place::SPSR_FIQ,
+            IRQ => place::SPSR_IRQ,
+            SUPERVISOR => place::SPSR_SVC,
+            MONITOR => place::SPSR_MON,
+            ABORT => place::SPSR_ABT,
+            HYP => place::SPSR_HYP,
+            UNDEFINED => place::SPSR_UND,
             _ => place::NO_PLACE,
         }
     }
@@ -104,15 +123,15 @@ impl Mode {
     {
         let n = self.number;
         match n {
-            0x10 => place::LR_USR,
-            0x11 => place::LR_FIQ,
-            0x12 => place::LR_IRQ,
-            0x13 => place::LR_SVC,
-            0x16 => place::LR_MON,
-            0x17 => place::LR_ABT,
-            0x1A => place::ELR_HYP,
-            0x1B => place::LR_UND,
-            0x1F => place::LR_USR,
+            USER => place::LR_USR,
+            FIQ => place::LR_FIQ,
+            IRQ => place::LR_IRQ,
+            SUPERVISOR => place::LR_SVC,
+            MONITOR => place::LR_MON,
+            ABORT => place::LR_ABT,
+            HYP => place::ELR_HYP,
+            UNDEFINED => place::LR_UND,
+            SYSTEM => place::LR_USR,
             _ => place::NO_PLACE,
         }
     }
