@@ -1,0 +1,254 @@
+/*
+ * pomurica.h: the exception rules of an Arm core on which all four Exception
+ * levels use AArch32, one step at a time, and a checker of traces of steps.
+ * C11 and C++.
+ *
+ * A state block of 176 bytes holds the core's banked and system registers, an
+ * event is something that happens to it, and a step says what the core does.
+ * A trace is what a unit records of its steps; the checker accepts it exactly
+ * when the rules can have made it.
+ *
+ * Link with libconsole.a.  Both functions are proved: for every input they
+ * return, give the one answer that the rules give, and write nothing but what
+ * is said here.  They keep nothing between calls, take no memory and may be
+ * called from several threads, each with buffers of its own.
+ *
+ * Outside the proof, and so up to the caller:
+ *   - a pointer and its length name memory that is there.  A length of 0 goes
+ *     with any pointer, NULL among them; NULL with a length above 0 does not;
+ *   - the two buffers of one call do not overlap, and nobody else writes them
+ *     while the call runs;
+ *   - the small inline functions of this header, which are plain C.
+ */
+#ifndef POMURICA_H
+#define POMURICA_H
+
+#include <stddef.h>
+#include <stdint.h>
+
+#ifdef __cplusplus
+extern "C" {
+#endif
+
+/* Sizes in bytes. */
+enum {
+    POMURICA_BLOCK_SIZE = 176,
+    POMURICA_ANSWER_SIZE = 8,
+    POMURICA_REPORT_SIZE = 12,
+    POMURICA_START_SIZE = 184,
+    POMURICA_STEP_SIZE = 200,
+    POMURICA_END_SIZE = 8
+};
+
+/* The most Steps that a trace may have. */
+#define POMURICA_MOST_STEPS 65535
+
+/* The bytes of the longest trace there is: 13,107,192. */
+#define POMURICA_LONGEST_TRACE \
+    (POMURICA_START_SIZE + POMURICA_MOST_STEPS * POMURICA_STEP_SIZE + POMURICA_END_SIZE)
+
+/* Answer numbers: 0 to 7 of a step, 0, 1 and 8 to 12 of the checker. */
+enum pomurica_number {
+    POMURICA_DONE = 0,        /* the step was done; the trace is accepted */
+    POMURICA_BAD_SIZE = 1,    /* a buffer has not its size; nothing was written */
+    POMURICA_BAD_MODE = 2,    /* the mode of CPSR is not one of the nine */
+    POMURICA_BAD_STATE = 3,   /* CPSR bits 24-21, Hyp with NS 0, or Non-secure EL1 with TGE 1 */
+    POMURICA_BAD_EVENT = 4,   /* unknown code, or an operand out of its range */
+    POMURICA_NOT_HERE = 5,    /* the event cannot happen in this mode and state */
+    POMURICA_NO_REGISTER = 6, /* banked access: no register has this number */
+    POMURICA_NO_RIGHT = 7,    /* banked access: not allowed from this mode and state */
+    POMURICA_SHORT = 8,       /* the trace ends before the record due */
+    POMURICA_BAD_RECORD = 9,  /* length or kind not of the record due */
+    POMURICA_BAD_COUNT = 10,  /* more than 65,535 Steps, or Start and End differ */
+    POMURICA_WRONG_STEP = 11, /* not what the rules give from the block before */
+    POMURICA_TRAILING = 12    /* bytes behind the End */
+};
+
+/*
+ * Event codes.  An event is a code and two operands, A and B, which are 0
+ * where none is named here.
+ */
+enum pomurica_event {
+    POMURICA_EVENT_UNDEFINED = 1,
+    POMURICA_EVENT_SVC = 2,
+    POMURICA_EVENT_SMC = 3,
+    POMURICA_EVENT_HVC = 4,
+    POMURICA_EVENT_PREFETCH_ABORT = 5,  /* A: enum pomurica_abort, added up */
+    POMURICA_EVENT_DATA_ABORT = 6,      /* A: enum pomurica_abort, added up */
+    POMURICA_EVENT_HYP_TRAP = 7,
+    POMURICA_EVENT_MONITOR_TRAP = 8,
+    POMURICA_EVENT_INTERRUPT_CHECK = 9, /* A: enum pomurica_line, added up */
+    POMURICA_EVENT_BANKED_READ = 10,    /* A: 32 * R + SYSm of the MRS instruction, 0 to 63 */
+    POMURICA_EVENT_BANKED_WRITE = 11,   /* A: 32 * R + SYSm of the MSR instruction; B: the new word */
+    POMURICA_EVENT_NOTE = 12            /* ordinary code changed a word.  A: its place; B: the new word */
+};
+
+/* A of an abort. */
+enum pomurica_abort {
+    POMURICA_ABORT_EXTERNAL = 1,
+    POMURICA_ABORT_STAGE_2 = 2
+};
+
+/* A of an interrupt check: the lines that are set. */
+enum pomurica_line {
+    POMURICA_LINE_SERROR = 1,
+    POMURICA_LINE_FIQ = 2,
+    POMURICA_LINE_IRQ = 4,
+    POMURICA_LINE_VIRTUAL_FIQ = 8,
+    POMURICA_LINE_VIRTUAL_IRQ = 16
+};
+
+/* Modes: CPSR bits 4-0. */
+enum pomurica_mode {
+    POMURICA_MODE_USER = 0x10,
+    POMURICA_MODE_FIQ = 0x11,
+    POMURICA_MODE_IRQ = 0x12,
+    POMURICA_MODE_SUPERVISOR = 0x13,
+    POMURICA_MODE_MONITOR = 0x16,
+    POMURICA_MODE_ABORT = 0x17,
+    POMURICA_MODE_HYP = 0x1A,
+    POMURICA_MODE_UNDEFINED = 0x1B,
+    POMURICA_MODE_SYSTEM = 0x1F
+};
+
+/* Places of the block: word p lies in bytes 4 * p to 4 * p + 3, little-endian. */
+enum pomurica_place {
+    POMURICA_PLACE_R8_USR = 0,
+    POMURICA_PLACE_R9_USR = 1,
+    POMURICA_PLACE_R10_USR = 2,
+    POMURICA_PLACE_R11_USR = 3,
+    POMURICA_PLACE_R12_USR = 4,
+    POMURICA_PLACE_SP_USR = 5,
+    POMURICA_PLACE_LR_USR = 6,
+    POMURICA_PLACE_R8_FIQ = 7,
+    POMURICA_PLACE_R9_FIQ = 8,
+    POMURICA_PLACE_R10_FIQ = 9,
+    POMURICA_PLACE_R11_FIQ = 10,
+    POMURICA_PLACE_R12_FIQ = 11,
+    POMURICA_PLACE_SP_FIQ = 12,
+    POMURICA_PLACE_LR_FIQ = 13,
+    POMURICA_PLACE_LR_IRQ = 14,
+    POMURICA_PLACE_SP_IRQ = 15,
+    POMURICA_PLACE_LR_SVC = 16,
+    POMURICA_PLACE_SP_SVC = 17,
+    POMURICA_PLACE_LR_ABT = 18,
+    POMURICA_PLACE_SP_ABT = 19,
+    POMURICA_PLACE_LR_UND = 20,
+    POMURICA_PLACE_SP_UND = 21,
+    POMURICA_PLACE_LR_MON = 22,
+    POMURICA_PLACE_SP_MON = 23,
+    POMURICA_PLACE_ELR_HYP = 24,
+    POMURICA_PLACE_SP_HYP = 25,
+    POMURICA_PLACE_SPSR_FIQ = 26,
+    POMURICA_PLACE_SPSR_IRQ = 27,
+    POMURICA_PLACE_SPSR_SVC = 28,
+    POMURICA_PLACE_SPSR_ABT = 29,
+    POMURICA_PLACE_SPSR_UND = 30,
+    POMURICA_PLACE_SPSR_MON = 31,
+    POMURICA_PLACE_SPSR_HYP = 32,
+    POMURICA_PLACE_CPSR = 33,
+    POMURICA_PLACE_PC = 34, /* of this instruction; for an interrupt, of the one not yet executed */
+    POMURICA_PLACE_SCR = 35,
+    POMURICA_PLACE_HCR = 36,
+    POMURICA_PLACE_SCTLR_S = 37,
+    POMURICA_PLACE_SCTLR_NS = 38,
+    POMURICA_PLACE_HSCTLR = 39,
+    POMURICA_PLACE_VBAR_S = 40,
+    POMURICA_PLACE_VBAR_NS = 41,
+    POMURICA_PLACE_HVBAR = 42,
+    POMURICA_PLACE_MVBAR = 43,
+    POMURICA_PLACES = 44
+};
+
+/* Which exception an entry was: bits 31-16 of its value. */
+enum pomurica_which {
+    POMURICA_WHICH_SYNCHRONOUS = 0,
+    POMURICA_WHICH_SERROR = 1,
+    POMURICA_WHICH_FIQ = 2,
+    POMURICA_WHICH_IRQ = 3,
+    POMURICA_WHICH_VIRTUAL_SERROR = 4,
+    POMURICA_WHICH_VIRTUAL_FIQ = 5,
+    POMURICA_WHICH_VIRTUAL_IRQ = 6
+};
+
+/*
+ * One step: the event (code, a, b) on the block.
+ *
+ * block   176 bytes.  A done step leaves the state after the event, a refused
+ *         one leaves every byte.
+ * answer  8 bytes: the number, then the value, each a little-endian word.
+ *
+ * Returns the number, 0 to 7; the lowest that applies.  POMURICA_BAD_SIZE, if
+ * block_len is not 176 or answer_len not 8, writes neither buffer.
+ *
+ * The value of a done step: an entry, which * 65536 + mode * 256 + offset of
+ * the vector; an interrupt check that takes nothing, 0; a banked read, the
+ * word; a banked write or a note, 0.  The value of a refused step is 0.
+ */
+uint32_t pomurica_step(uint8_t *block, size_t block_len,
+                       uint32_t code, uint32_t a, uint32_t b,
+                       uint8_t *answer, size_t answer_len);
+
+/*
+ * The checker: whether the bytes are the trace of some start block and some
+ * list of at most 65,535 events, and nothing more.
+ *
+ * trace   any bytes of any length; only read.
+ * report  12 bytes: the number, the place and the Steps, each a little-endian
+ *         word.  Accepted: the place is the length of the trace, and Steps how
+ *         many it has.  Refused: the place is the first byte of the record at
+ *         fault (POMURICA_TRAILING: the first byte too many), at most
+ *         13,107,192, and Steps is how many Steps before it were found right.
+ *
+ * Returns the number: POMURICA_DONE if and only if the trace is accepted, else
+ * 8 to 12.  POMURICA_BAD_SIZE, if report_len is not 12, writes nothing.
+ */
+uint32_t pomurica_check(const uint8_t *trace, size_t trace_len,
+                        uint8_t *report, size_t report_len);
+
+/* The word at a place of a block, or word 0, 1, 2 of an answer or a report. */
+static inline uint32_t pomurica_get_word(const uint8_t *bytes, size_t place)
+{
+    const uint8_t *word = bytes + 4 * place;
+
+    return (uint32_t)word[0] | (uint32_t)word[1] << 8 | (uint32_t)word[2] << 16 |
+           (uint32_t)word[3] << 24;
+}
+
+/* Puts a word at a place of a block. */
+static inline void pomurica_put_word(uint8_t *bytes, size_t place, uint32_t value)
+{
+    uint8_t *word = bytes + 4 * place;
+
+    word[0] = (uint8_t)(value & 0xFF);
+    word[1] = (uint8_t)(value >> 8 & 0xFF);
+    word[2] = (uint8_t)(value >> 16 & 0xFF);
+    word[3] = (uint8_t)(value >> 24);
+}
+
+/* The name of a number, for messages; "UNKNOWN" for one that is none. */
+static inline const char *pomurica_number_name(uint32_t number)
+{
+    switch (number) {
+    case POMURICA_DONE: return "DONE";
+    case POMURICA_BAD_SIZE: return "BAD_SIZE";
+    case POMURICA_BAD_MODE: return "BAD_MODE";
+    case POMURICA_BAD_STATE: return "BAD_STATE";
+    case POMURICA_BAD_EVENT: return "BAD_EVENT";
+    case POMURICA_NOT_HERE: return "NOT_HERE";
+    case POMURICA_NO_REGISTER: return "NO_REGISTER";
+    case POMURICA_NO_RIGHT: return "NO_RIGHT";
+    case POMURICA_SHORT: return "SHORT";
+    case POMURICA_BAD_RECORD: return "BAD_RECORD";
+    case POMURICA_BAD_COUNT: return "BAD_COUNT";
+    case POMURICA_WRONG_STEP: return "WRONG_STEP";
+    case POMURICA_TRAILING: return "TRAILING";
+    default: return "UNKNOWN";
+    }
+}
+
+#ifdef __cplusplus
+}
+#endif
+
+#endif

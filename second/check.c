@@ -1,0 +1,124 @@
+/*
+ * The checker of traces: walks the records once, in order, and runs the step
+ * on the block before each Step.
+ */
+#include "second.h"
+#include "words.h"
+
+#include <stdbool.h>
+#include <string.h>
+
+/* The trace: where the parts of a record begin, from its first byte. */
+enum part {
+    HEADER_SIZE = 4,
+    START_COUNT = 4,
+    START_BLOCK = 8,
+    STEP_CODE = 4,
+    STEP_A = 8,
+    STEP_B = 12,
+    STEP_ANSWER = 16,
+    STEP_BLOCK = 24,
+    END_COUNT = 4
+};
+
+/* The trace: "n at most 65,535". */
+#define MOST_STEPS 65535
+
+/* The trace: a record's length and kind. */
+struct record {
+    uint32_t length, kind;
+};
+
+/* The trace: the three records. */
+static const struct record START = { 184, 1 };
+static const struct record STEP = { 200, 2 };
+static const struct record END = { 8, 3 };
+
+/* The trace: what the checker answers. */
+struct report {
+    enum number number;
+    size_t place;
+    uint32_t steps;
+};
+
+/* The trace: whether the record due lies whole in the bytes left; else 8 or 9. */
+static enum number find_record(const uint8_t *bytes, size_t left, struct record due)
+{
+    if (left < HEADER_SIZE)
+        return SHORT;
+    if (get_half(bytes) != due.length || get_half(bytes + 2) != due.kind)
+        return BAD_RECORD;
+    if (left < due.length)
+        return SHORT;
+    return DONE;
+}
+
+/* The trace: whether a Step is "what the rules give from the block before"; moves the block. */
+static bool is_right_step(const uint8_t *step, uint8_t *block)
+{
+    uint8_t answer[ANSWER_SIZE];
+
+    second_step(block, BLOCK_SIZE, get_word(step + STEP_CODE), get_word(step + STEP_A),
+                get_word(step + STEP_B), answer, sizeof answer);
+    return memcmp(step + STEP_ANSWER, answer, sizeof answer) == 0 &&
+           memcmp(step + STEP_BLOCK, block, BLOCK_SIZE) == 0;
+}
+
+/* The trace: "One Start, n Steps, one End", then nothing. */
+static struct report judge(const uint8_t *trace, size_t length)
+{
+    struct report report = { DONE, 0, 0 };
+    uint8_t block[BLOCK_SIZE];
+    uint32_t n;
+
+    report.number = find_record(trace, length, START);
+    if (report.number != DONE)
+        return report;
+    n = get_word(trace + START_COUNT);
+    if (n > MOST_STEPS) {
+        report.number = BAD_COUNT;
+        return report;
+    }
+    memcpy(block, trace + START_BLOCK, BLOCK_SIZE);
+    report.place += START.length;
+
+    while (report.steps < n) {
+        const uint8_t *step = trace + report.place;
+
+        report.number = find_record(step, length - report.place, STEP);
+        if (report.number == DONE && !is_right_step(step, block))
+            report.number = WRONG_STEP;
+        if (report.number != DONE)
+            return report;
+        report.place += STEP.length;
+        report.steps++;
+    }
+
+    report.number = find_record(trace + report.place, length - report.place, END);
+    if (report.number == DONE && get_word(trace + report.place + END_COUNT) != n)
+        report.number = BAD_COUNT;
+    if (report.number != DONE)
+        return report;
+    report.place += END.length;
+
+    if (report.place < length)
+        report.number = TRAILING;
+    return report;
+}
+
+/* The trace: the number, the place, and the Steps found right before it. */
+uint32_t second_check(const uint8_t *trace, size_t trace_len,
+                      uint8_t *report, size_t report_len)
+{
+    struct report verdict;
+
+    if (report_len != REPORT_SIZE)
+        return BAD_SIZE;
+
+    /* A place is at most the 13,107,192 bytes of the longest trace. */
+    verdict = judge(trace, trace_len);
+    put_word(report, verdict.number);
+    put_word(report + 4, (uint32_t)verdict.place);
+    put_word(report + 8, verdict.steps);
+    return verdict.number;
+}

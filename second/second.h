@@ -1,0 +1,21 @@
+/*
+ * A second implementation of document 01, written from the papers alone, to
+ * be held against the proved one.  Both functions return the number; neither
+ * keeps anything between calls.  (NULL, 0) is an empty buffer.
+ */
+#ifndef SECOND_H
+#define SECOND_H
+
+#include <stddef.h>
+#include <stdint.h>
+
+/* Answer numbers: a step on a block of 176 bytes, with an answer of 8 apart from it. */
+uint32_t second_step(uint8_t *block, size_t block_len,
+                     uint32_t code, uint32_t a, uint32_t b,
+                     uint8_t *answer, size_t answer_len);
+
+/* The trace: number, place and Steps into a report of 12 bytes; of another size it is BAD_SIZE. */
+uint32_t second_check(const uint8_t *trace, size_t trace_len,
+                      uint8_t *report, size_t report_len);
+
+#endif

@@ -1,0 +1,156 @@
+/*
+ * The words of document 01: its names for places, modes, events, numbers and
+ * bits, and how a word lies in bytes.
+ */
+#ifndef WORDS_H
+#define WORDS_H
+
+#include <stdint.h>
+
+/* The state block: the place of each word. */
+enum place {
+    R8_usr = 0, R9_usr, R10_usr, R11_usr, R12_usr, SP_usr, LR_usr,
+    R8_fiq = 7, R9_fiq, R10_fiq, R11_fiq, R12_fiq, SP_fiq, LR_fiq,
+    LR_irq = 14, SP_irq, LR_svc, SP_svc, LR_abt, SP_abt, LR_und, SP_und,
+    LR_mon = 22, SP_mon, ELR_hyp, SP_hyp,
+    SPSR_fiq = 26, SPSR_irq, SPSR_svc, SPSR_abt, SPSR_und, SPSR_mon, SPSR_hyp,
+    CPSR = 33, PC,
+    SCR = 35, HCR,
+    SCTLR_S = 37, SCTLR_NS, HSCTLR,
+    VBAR_S = 40, VBAR_NS, HVBAR, MVBAR,
+    PLACES = 44
+};
+
+/* The state block: the nine mode numbers. */
+enum mode {
+    MODE_USER = 0x10,
+    MODE_FIQ = 0x11,
+    MODE_IRQ = 0x12,
+    MODE_SUPERVISOR = 0x13,
+    MODE_MONITOR = 0x16,
+    MODE_ABORT = 0x17,
+    MODE_HYP = 0x1A,
+    MODE_UNDEFINED = 0x1B,
+    MODE_SYSTEM = 0x1F
+};
+
+/* The state block: the bits of CPSR that steer or change; N Z C V Q and GE do neither. */
+enum cpsr_bits {
+    CPSR_MODE = 0x1F,
+    CPSR_T = 1 << 5,
+    CPSR_F = 1 << 6,
+    CPSR_I = 1 << 7,
+    CPSR_A = 1 << 8,
+    CPSR_E = 1 << 9,
+    CPSR_IL = 1 << 20,
+    CPSR_24_TO_21 = 0xF << 21,
+    CPSR_IT = 3 << 25 | 0x3F << 10
+};
+
+/* The state block: the bits of SCR. */
+enum scr_bits {
+    SCR_NS = 1 << 0,
+    SCR_IRQ = 1 << 1,
+    SCR_FIQ = 1 << 2,
+    SCR_EA = 1 << 3,
+    SCR_FW = 1 << 4,
+    SCR_AW = 1 << 5
+};
+
+/* The state block: the bits of HCR. */
+enum hcr_bits {
+    HCR_FMO = 1 << 3,
+    HCR_IMO = 1 << 4,
+    HCR_AMO = 1 << 5,
+    HCR_VF = 1 << 6,
+    HCR_VI = 1 << 7,
+    HCR_VA = 1 << 8,
+    HCR_TSC = 1 << 19,
+    HCR_TGE = 1 << 27
+};
+
+/* The state block: the bits of both SCTLR and of HSCTLR, which has no V. */
+enum sctlr_bits {
+    SCTLR_V = 1 << 13,
+    SCTLR_EE = 1 << 25,
+    SCTLR_TE = 1 << 30
+};
+
+/* Events: the codes. */
+enum code {
+    CODE_UNDEFINED = 1,
+    CODE_SVC = 2,
+    CODE_SMC = 3,
+    CODE_HVC = 4,
+    CODE_PREFETCH_ABORT = 5,
+    CODE_DATA_ABORT = 6,
+    CODE_HYP_TRAP = 7,
+    CODE_MONITOR_TRAP = 8,
+    CODE_INTERRUPT_CHECK = 9,
+    CODE_BANKED_READ = 10,
+    CODE_BANKED_WRITE = 11,
+    CODE_NOTE = 12,
+    CODES = 13
+};
+
+/* Events: A of an abort. */
+enum abort_bits {
+    ABORT_EXTERNAL = 1,
+    ABORT_STAGE_2 = 2
+};
+
+/* Events: A of an interrupt check. */
+enum line_bits {
+    LINE_SERROR = 1,
+    LINE_FIQ = 2,
+    LINE_IRQ = 4,
+    LINE_VFIQ = 8,
+    LINE_VIRQ = 16
+};
+
+/* Answer numbers: 0 to 7 of a step; 0 and 8 to 12 of the checker (The trace). */
+enum number {
+    DONE = 0,
+    BAD_SIZE = 1,
+    BAD_MODE = 2,
+    BAD_STATE = 3,
+    BAD_EVENT = 4,
+    NOT_HERE = 5,
+    NO_REGISTER = 6,
+    NO_RIGHT = 7,
+    SHORT = 8,
+    BAD_RECORD = 9,
+    BAD_COUNT = 10,
+    WRONG_STEP = 11,
+    TRAILING = 12
+};
+
+/* The state block, Answer numbers, The trace: sizes in bytes. */
+enum size {
+    BLOCK_SIZE = 4 * PLACES,
+    ANSWER_SIZE = 8,
+    REPORT_SIZE = 12
+};
+
+/* The trace: two bytes, little-endian. */
+static inline uint32_t get_half(const uint8_t *bytes)
+{
+    return (uint32_t)bytes[0] | (uint32_t)bytes[1] << 8;
+}
+
+/* The state block: four bytes, little-endian. */
+static inline uint32_t get_word(const uint8_t *bytes)
+{
+    return get_half(bytes) | get_half(bytes + 2) << 16;
+}
+
+/* The state block: a word as four bytes, little-endian. */
+static inline void put_word(uint8_t *bytes, uint32_t word)
+{
+    bytes[0] = (uint8_t)(word & 0xFF);
+    bytes[1] = (uint8_t)(word >> 8 & 0xFF);
+    bytes[2] = (uint8_t)(word >> 16 & 0xFF);
+    bytes[3] = (uint8_t)(word >> 24 & 0xFF);
+}
+
+#endif

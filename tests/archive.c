@@ -1,0 +1,240 @@
+/*
+ * The step of the archive, called from C: document 01's worked cases a to k,
+ * every length of both buffers from 0 to 200, and guard bytes around both.
+ */
+#include "group.h"
+#include "lent.h"
+#include "pomurica.h"
+
+#include <stdbool.h>
+#include <stdio.h>
+#include <string.h>
+
+enum {
+    CPSR = POMURICA_PLACE_CPSR,
+    PC = POMURICA_PLACE_PC,
+    SCR = POMURICA_PLACE_SCR,
+    HCR = POMURICA_PLACE_HCR,
+    VBAR_NS = POMURICA_PLACE_VBAR_NS,
+    LR_IRQ = POMURICA_PLACE_LR_IRQ,
+    LR_SVC = POMURICA_PLACE_LR_SVC,
+    LR_ABT = POMURICA_PLACE_LR_ABT,
+    LR_MON = POMURICA_PLACE_LR_MON,
+    ELR_HYP = POMURICA_PLACE_ELR_HYP,
+    SP_HYP = POMURICA_PLACE_SP_HYP,
+    CHECK = POMURICA_EVENT_INTERRUPT_CHECK,
+    READ = POMURICA_EVENT_BANKED_READ,
+    SVC = POMURICA_EVENT_SVC,
+    SMC = POMURICA_EVENT_SMC
+};
+
+/* The words that decide a worked case; the others are 0 but PC, 0x8000 unless named. */
+struct start {
+    uint32_t scr, hcr, cpsr, pc, vbar_ns;
+};
+
+struct named_word {
+    uint32_t place, word;
+};
+
+#define PC_HERE 0x8000
+#define MOST_NAMED 3
+
+/* A row of "Numbers to hold against it": all that its result names. */
+struct worked_case {
+    const char *name;
+    struct start start;
+    uint32_t code, a;
+    uint32_t number, value;
+    struct named_word named[MOST_NAMED];
+    size_t named_count;
+};
+
+static const struct worked_case ENTRIES[] = {
+    { "a", { .scr = 1, .cpsr = 0x13, .pc = PC_HERE, .vbar_ns = 0x10000000 }, CHECK, 4,
+      POMURICA_DONE, 0x31218, { { CPSR, 0x192 }, { LR_IRQ, 0x8004 }, { PC, 0x10000018 } }, 3 },
+    { "b", { .scr = 3, .cpsr = 0x13, .pc = PC_HERE, .vbar_ns = 0x10000000 }, CHECK, 4,
+      POMURICA_DONE, 0x31618, { { CPSR, 0x1D6 } }, 1 },
+    { "c", { .scr = 3, .cpsr = 0x93, .pc = PC_HERE }, CHECK, 4,
+      POMURICA_DONE, 0, { { CPSR, 0x93 }, { PC, PC_HERE } }, 2 },
+    { "d", { .scr = 1, .hcr = 0x10, .cpsr = 0x93, .pc = PC_HERE }, CHECK, 4,
+      POMURICA_DONE, 0x31A18, { { CPSR, 0x1DA }, { ELR_HYP, 0x8000 } }, 2 },
+    { "e", { .scr = 5, .cpsr = 0x53, .pc = PC_HERE }, CHECK, 2,
+      POMURICA_DONE, 0x2161C, { { SCR, 5 } }, 1 },
+    { "e, SCR 0x15", { .scr = 0x15, .cpsr = 0x53, .pc = PC_HERE }, CHECK, 2,
+      POMURICA_DONE, 0, { { CPSR, 0x53 }, { PC, PC_HERE } }, 2 },
+    { "f", { .scr = 1, .hcr = 0x120, .cpsr = 0x13, .pc = PC_HERE }, CHECK, 0,
+      POMURICA_DONE, 0x41710, { { HCR, 0x20 }, { LR_ABT, 0x8008 } }, 2 },
+    { "g", { .scr = 1, .cpsr = 0x30, .pc = 0xFFFFFFFE }, SVC, 0,
+      POMURICA_DONE, 0x1308, { { LR_SVC, 0 }, { CPSR, 0x93 } }, 2 },
+    { "h", { .scr = 1, .cpsr = 0x16, .pc = PC_HERE }, SMC, 0,
+      POMURICA_DONE, 0x1608, { { SCR, 0 }, { LR_MON, 0x8004 } }, 2 },
+};
+
+/* Cases i, j and k: a banked read, and the place of the register that a done one shows. */
+struct read_case {
+    const char *name;
+    struct start start;
+    uint32_t a, number, place;
+};
+
+static const struct read_case READS[] = {
+    { "i", { .scr = 1, .cpsr = 0x13, .pc = PC_HERE }, 31, POMURICA_NO_RIGHT, 0 },
+    { "i, from 0x16", { .scr = 1, .cpsr = 0x16, .pc = PC_HERE }, 31, POMURICA_DONE, SP_HYP },
+    { "j", { .scr = 1, .cpsr = 0x1A, .pc = PC_HERE }, 30, POMURICA_DONE, ELR_HYP },
+    { "j, A 62", { .scr = 1, .cpsr = 0x1A, .pc = PC_HERE }, 62, POMURICA_NO_RIGHT, 0 },
+    { "j, A 7", { .scr = 1, .cpsr = 0x1A, .pc = PC_HERE }, 7, POMURICA_NO_REGISTER, 0 },
+    { "k", { .cpsr = 0x13, .pc = PC_HERE }, 28, POMURICA_DONE, LR_MON },
+};
+
+#define COUNT(rows) (sizeof(rows) / sizeof((rows)[0]))
+
+/* The bytes that an answer buffer holds before a call. */
+static const uint8_t OLD_ANSWER[POMURICA_ANSWER_SIZE] = { 1, 2, 3, 4, 5, 6, 7, 8 };
+
+/* A call of the step on lent copies, and what came of it. */
+struct call {
+    struct lent block, answer;
+    uint32_t number;
+    bool guards_kept;
+};
+
+static void call_step(struct call *call, const uint8_t *block, size_t block_len,
+                      uint32_t code, uint32_t a, uint32_t b,
+                      const uint8_t *answer, size_t answer_len)
+{
+    uint8_t *lent_block = lend(&call->block, block, block_len, block_len % 16);
+    uint8_t *lent_answer = lend(&call->answer, answer, answer_len, answer_len % 16);
+
+    call->number = pomurica_step(lent_block, block_len, code, a, b, lent_answer, answer_len);
+    call->guards_kept = take_back(&call->block);
+    call->guards_kept = take_back(&call->answer) && call->guards_kept;
+}
+
+/* A call with both buffers of their sizes: it answers as it returns and keeps the guards. */
+static void call_whole(struct call *call, const char *name, const uint8_t *block,
+                       uint32_t code, uint32_t a)
+{
+    call_step(call, block, POMURICA_BLOCK_SIZE, code, a, 0, OLD_ANSWER, POMURICA_ANSWER_SIZE);
+    check(call->guards_kept, "%s: a guard byte changed", name);
+    check(pomurica_get_word(bytes_of(&call->answer), 0) == call->number,
+          "%s: number written %u, returned %u", name,
+          pomurica_get_word(bytes_of(&call->answer), 0), call->number);
+}
+
+static void check_value(const struct call *call, const char *name, uint32_t value)
+{
+    const uint32_t given = pomurica_get_word(bytes_of(&call->answer), 1);
+
+    check(given == value, "%s: value 0x%X, not 0x%X", name, given, value);
+}
+
+static void put_start(uint8_t *block, const struct start *start)
+{
+    pomurica_put_word(block, SCR, start->scr);
+    pomurica_put_word(block, HCR, start->hcr);
+    pomurica_put_word(block, CPSR, start->cpsr);
+    pomurica_put_word(block, PC, start->pc);
+    pomurica_put_word(block, VBAR_NS, start->vbar_ns);
+}
+
+static void run_entry(const struct worked_case *worked)
+{
+    uint8_t block[POMURICA_BLOCK_SIZE] = { 0 };
+    struct call call;
+
+    put_start(block, &worked->start);
+    call_whole(&call, worked->name, block, worked->code, worked->a);
+    check(call.number == worked->number, "%s: number %u", worked->name, call.number);
+    check_value(&call, worked->name, worked->value);
+    for (size_t i = 0; i < worked->named_count; i++) {
+        const struct named_word *named = &worked->named[i];
+        const uint32_t word = pomurica_get_word(bytes_of(&call.block), named->place);
+
+        check(word == named->word, "%s: place %u holds 0x%X, not 0x%X",
+              worked->name, named->place, word, named->word);
+    }
+    if (worked->value == 0)
+        check(is_unchanged(&call.block), "%s: the block changed", worked->name);
+}
+
+/* On a block whose other words are as given: a read changes no byte and shows its own register. */
+static void run_read(const struct read_case *worked, uint8_t *block)
+{
+    struct call call;
+
+    put_start(block, &worked->start);
+    call_whole(&call, worked->name, block, READ, worked->a);
+    check(call.number == worked->number, "%s: number %u", worked->name, call.number);
+    check(is_unchanged(&call.block), "%s: the block changed", worked->name);
+    check_value(&call, worked->name,
+                worked->number == POMURICA_DONE ? pomurica_get_word(block, worked->place) : 0);
+}
+
+static void run_reads(bool every_word)
+{
+    for (size_t i = 0; i < COUNT(READS); i++) {
+        uint8_t block[POMURICA_BLOCK_SIZE] = { 0 };
+
+        for (uint32_t place = 0; every_word && place < POMURICA_PLACES; place++)
+            pomurica_put_word(block, place, 0x11110001 + place * 0x01010101);
+        run_read(&READS[i], block);
+    }
+}
+
+/* A call with a buffer of another size: BAD_SIZE, and neither buffer changes. */
+static void run_wrong_size(size_t block_len, size_t answer_len)
+{
+    static uint8_t bytes[LENT_MOST];
+    struct call call;
+
+    memset(bytes, 0x5C, sizeof bytes);
+    call_step(&call, bytes, block_len, SVC, 0, 0, bytes, answer_len);
+    check(call.number == POMURICA_BAD_SIZE && call.guards_kept &&
+              is_unchanged(&call.block) && is_unchanged(&call.answer),
+          "block of %zu bytes, answer of %zu: number %u", block_len, answer_len, call.number);
+}
+
+#define LONGEST_TRIED 200
+
+static void run_lengths(void)
+{
+    for (size_t block_len = 0; block_len <= LONGEST_TRIED; block_len++) {
+        for (size_t answer_len = 0; answer_len <= LONGEST_TRIED; answer_len++) {
+            if (block_len != POMURICA_BLOCK_SIZE || answer_len != POMURICA_ANSWER_SIZE)
+                run_wrong_size(block_len, answer_len);
+        }
+    }
+}
+
+/* NULL for each buffer, and for both, with length 0. */
+static void run_null(void)
+{
+    uint8_t block[POMURICA_BLOCK_SIZE] = { 0 };
+    uint8_t answer[POMURICA_ANSWER_SIZE] = { 0 };
+    uint8_t untouched[POMURICA_BLOCK_SIZE] = { 0 };
+
+    check(pomurica_step(NULL, 0, SVC, 0, 0, answer, sizeof answer) == POMURICA_BAD_SIZE,
+          "no block");
+    check(pomurica_step(block, sizeof block, SVC, 0, 0, NULL, 0) == POMURICA_BAD_SIZE,
+          "no answer buffer");
+    check(pomurica_step(NULL, 0, SVC, 0, 0, NULL, 0) == POMURICA_BAD_SIZE, "neither");
+    check(memcmp(answer, untouched, sizeof answer) == 0, "the answer buffer changed");
+    check(memcmp(block, untouched, sizeof block) == 0, "the block changed");
+}
+
+int main(void)
+{
+    group("worked cases a to h");
+    for (size_t i = 0; i < COUNT(ENTRIES); i++)
+        run_entry(&ENTRIES[i]);
+    group("worked cases i to k");
+    run_reads(false);
+    group("worked cases i to k, a different word at every place");
+    run_reads(true);
+    group("every length of both buffers from 0 to 200");
+    run_lengths();
+    group("NULL with length 0");
+    run_null();
+    return summary();
+}

@@ -1,0 +1,203 @@
+/*
+ * The checker of the archive, called from C: document 01's worked case l, a
+ * trace cut before each of its bytes, bytes behind it, each byte changed, and
+ * every length of the report from 0 to 200.
+ */
+#include "edge.h"
+#include "group.h"
+#include "lent.h"
+#include "pomurica.h"
+
+#include <stdio.h>
+#include <string.h>
+
+/* A trace of three Steps: an entry, a refusal and a note. */
+enum {
+    STEPS = 3,
+    LENGTH = POMURICA_START_SIZE + STEPS * POMURICA_STEP_SIZE + POMURICA_END_SIZE,
+    END_PLACE = LENGTH - POMURICA_END_SIZE
+};
+
+/* Where the words of a record lie, counted in words from its head. */
+enum {
+    HEAD = 0,
+    COUNT = 1,
+    START_BLOCK = 2,
+    CODE = 1, A = 2, B = 3,
+    ANSWER = 4,
+    STEP_BLOCK = 6
+};
+
+static const uint32_t EVENTS[STEPS][3] = {
+    { POMURICA_EVENT_SVC, 0, 0 },
+    { POMURICA_EVENT_HVC, 0, 0 },
+    { POMURICA_EVENT_NOTE, POMURICA_PLACE_SP_SVC, 0x12345678 },
+};
+
+static void put_head(uint8_t *record, uint32_t length, uint32_t kind)
+{
+    pomurica_put_word(record, HEAD, length | kind << 16);
+}
+
+/* Writes the trace as a recorder does: each event, its answer, and the block after it. */
+static void record(uint8_t *trace)
+{
+    uint8_t block[POMURICA_BLOCK_SIZE] = { 0 };
+    uint8_t *step = trace + POMURICA_START_SIZE;
+
+    pomurica_put_word(block, POMURICA_PLACE_CPSR, POMURICA_MODE_USER);
+    put_head(trace, POMURICA_START_SIZE, 1);
+    pomurica_put_word(trace, COUNT, STEPS);
+    memcpy(trace + 4 * START_BLOCK, block, sizeof block);
+    for (size_t i = 0; i < STEPS; i++, step += POMURICA_STEP_SIZE) {
+        put_head(step, POMURICA_STEP_SIZE, 2);
+        pomurica_put_word(step, CODE, EVENTS[i][0]);
+        pomurica_put_word(step, A, EVENTS[i][1]);
+        pomurica_put_word(step, B, EVENTS[i][2]);
+        pomurica_step(block, sizeof block, EVENTS[i][0], EVENTS[i][1], EVENTS[i][2],
+                      step + 4 * ANSWER, POMURICA_ANSWER_SIZE);
+        memcpy(step + 4 * STEP_BLOCK, block, sizeof block);
+    }
+    put_head(step, POMURICA_END_SIZE, 3);
+    pomurica_put_word(step, COUNT, STEPS);
+}
+
+/* The first byte of the record in which a byte lies, and the Steps before it. */
+static uint32_t steps_before(size_t byte)
+{
+    if (byte < POMURICA_START_SIZE)
+        return 0;
+    return (uint32_t)((byte - POMURICA_START_SIZE) / POMURICA_STEP_SIZE);
+}
+
+static uint32_t record_of(size_t byte)
+{
+    if (byte < POMURICA_START_SIZE)
+        return 0;
+    return POMURICA_START_SIZE + steps_before(byte) * POMURICA_STEP_SIZE;
+}
+
+/* The bytes that a report holds before a call. */
+static const uint8_t OLD_REPORT[LENT_MOST] = { 1, 2, 3, 4, 5, 6, 7, 8, 9, 10, 11, 12 };
+
+/* The report on the bytes is these three words, and nothing else changed. */
+static void expect(const uint8_t *bytes, size_t length,
+                   uint32_t number, uint32_t place, uint32_t steps)
+{
+    const uint8_t *trace = lend_at_edge(bytes, length);
+    struct lent lent;
+    uint8_t *report = lend(&lent, OLD_REPORT, POMURICA_REPORT_SIZE, length % 16);
+    const uint32_t returned = pomurica_check(trace, length, report, POMURICA_REPORT_SIZE);
+
+    check(take_back(&lent), "a guard byte changed");
+    check(memcmp(trace, bytes, length) == 0, "the trace changed");
+    check(returned == number && pomurica_get_word(report, 0) == number &&
+              pomurica_get_word(report, 1) == place && pomurica_get_word(report, 2) == steps,
+          "%zu bytes: returned %u, report %u %u %u, not %u %u %u", length, returned,
+          pomurica_get_word(report, 0), pomurica_get_word(report, 1),
+          pomurica_get_word(report, 2), number, place, steps);
+}
+
+static void run_case_l(void)
+{
+    static const uint8_t SHORTEST[192] = { [0] = 0xB8, [2] = 1, [184] = 8, [186] = 3 };
+
+    expect(SHORTEST, 192, POMURICA_DONE, 192, 0);
+    expect(SHORTEST, 191, POMURICA_SHORT, 184, 0);
+    expect(SHORTEST, 0, POMURICA_SHORT, 0, 0);
+}
+
+static void run_null(void)
+{
+    uint8_t report[POMURICA_REPORT_SIZE];
+
+    check(pomurica_check(NULL, 0, report, sizeof report) == POMURICA_SHORT, "no trace");
+    check(pomurica_check(NULL, 0, NULL, 0) == POMURICA_BAD_SIZE, "no trace and no report");
+}
+
+static void run_cut(const uint8_t *trace)
+{
+    for (size_t length = 0; length < LENGTH; length++)
+        expect(trace, length, POMURICA_SHORT, record_of(length), steps_before(length));
+}
+
+static void run_trailing(const uint8_t *trace)
+{
+    uint8_t longer[LENGTH + POMURICA_STEP_SIZE] = { 0 };
+
+    memcpy(longer, trace, LENGTH);
+    for (size_t length = LENGTH + 1; length <= sizeof longer; length++)
+        expect(longer, length, POMURICA_TRAILING, LENGTH, STEPS);
+    memcpy(longer + LENGTH, trace + END_PLACE, POMURICA_END_SIZE);
+    expect(longer, LENGTH + POMURICA_END_SIZE, POMURICA_TRAILING, LENGTH, STEPS);
+}
+
+/* Each byte of what the Steps say came of their events. */
+static void run_changed(const uint8_t *trace)
+{
+    uint8_t changed[LENGTH];
+
+    memcpy(changed, trace, LENGTH);
+    for (size_t byte = POMURICA_START_SIZE; byte < END_PLACE; byte++) {
+        if (byte - record_of(byte) < 4 * ANSWER)
+            continue;
+        changed[byte] ^= 1;
+        expect(changed, LENGTH, POMURICA_WRONG_STEP, record_of(byte), steps_before(byte));
+        changed[byte] ^= 1;
+    }
+}
+
+static void run_counts(const uint8_t *trace)
+{
+    uint8_t changed[LENGTH];
+
+    memcpy(changed, trace, LENGTH);
+    pomurica_put_word(changed, COUNT, POMURICA_MOST_STEPS + 1);
+    expect(changed, LENGTH, POMURICA_BAD_COUNT, 0, 0);
+    pomurica_put_word(changed, COUNT, STEPS + 1);
+    expect(changed, LENGTH, POMURICA_BAD_RECORD, END_PLACE, STEPS);
+    pomurica_put_word(changed, COUNT, STEPS - 1);
+    expect(changed, LENGTH, POMURICA_BAD_RECORD, END_PLACE - POMURICA_STEP_SIZE, STEPS - 1);
+    pomurica_put_word(changed, COUNT, STEPS);
+    pomurica_put_word(changed + END_PLACE, COUNT, STEPS + 1);
+    expect(changed, LENGTH, POMURICA_BAD_COUNT, END_PLACE, STEPS);
+}
+
+static void run_report_lengths(const uint8_t *trace)
+{
+    for (size_t length = 0; length <= 200; length++) {
+        struct lent lent;
+        uint8_t *report = lend(&lent, OLD_REPORT, length, length % 16);
+
+        if (length == POMURICA_REPORT_SIZE)
+            continue;
+        check(pomurica_check(trace, LENGTH, report, length) == POMURICA_BAD_SIZE &&
+                  take_back(&lent) && is_unchanged(&lent),
+              "report of %zu bytes", length);
+    }
+}
+
+int main(void)
+{
+    uint8_t trace[LENGTH];
+
+    open_edge(LENGTH + POMURICA_STEP_SIZE);
+    record(trace);
+    group("worked case l");
+    run_case_l();
+    group("NULL with length 0, checker");
+    run_null();
+    group("an honest trace");
+    expect(trace, LENGTH, POMURICA_DONE, LENGTH, STEPS);
+    group("cut before each byte");
+    run_cut(trace);
+    group("bytes behind the End");
+    run_trailing(trace);
+    group("each byte of answer, value and block after changed");
+    run_changed(trace);
+    group("wrong counts");
+    run_counts(trace);
+    group("every length of the report from 0 to 200");
+    run_report_lengths(trace);
+    return summary();
+}

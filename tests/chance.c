@@ -1,0 +1,187 @@
+#include "chance.h"
+
+#include "../second/words.h"
+
+const uint8_t MODES[MODE_COUNT] = {
+    MODE_USER, MODE_FIQ, MODE_IRQ, MODE_SUPERVISOR, MODE_MONITOR,
+    MODE_ABORT, MODE_HYP, MODE_UNDEFINED, MODE_SYSTEM
+};
+
+/* SplitMix64. */
+uint32_t any_word(struct chance *chance)
+{
+    uint64_t mixed = chance->seed += UINT64_C(0x9E3779B97F4A7C15);
+
+    mixed = (mixed ^ mixed >> 30) * UINT64_C(0xBF58476D1CE4E5B9);
+    mixed = (mixed ^ mixed >> 27) * UINT64_C(0x94D049BB133111EB);
+    return (uint32_t)(mixed >> 32);
+}
+
+uint32_t any_below(struct chance *chance, uint32_t limit)
+{
+    return (uint32_t)((uint64_t)any_word(chance) * limit >> 32);
+}
+
+bool one_in(struct chance *chance, uint32_t times)
+{
+    return any_below(chance, times) == 0;
+}
+
+void any_bytes(struct chance *chance, uint8_t *bytes, size_t length)
+{
+    for (size_t i = 0; i < length; i++)
+        bytes[i] = (uint8_t)any_word(chance);
+}
+
+static void put(uint8_t *block, uint32_t place, uint32_t word)
+{
+    put_word(block + 4 * place, word);
+}
+
+static uint32_t get(const uint8_t *block, uint32_t place)
+{
+    return get_word(block + 4 * place);
+}
+
+/* A CPSR of the mode, with bits 24-21 zero. */
+static uint32_t any_cpsr(struct chance *chance, uint32_t mode)
+{
+    return (any_word(chance) & ~(uint32_t)(CPSR_24_TO_21 | CPSR_MODE)) | mode;
+}
+
+static bool is_el1(uint32_t mode)
+{
+    return mode != MODE_USER && mode != MODE_MONITOR && mode != MODE_HYP;
+}
+
+void good_block(struct chance *chance, uint8_t *block)
+{
+    const uint32_t mode = MODES[any_below(chance, MODE_COUNT)];
+    uint32_t scr = any_word(chance), hcr = any_word(chance);
+
+    for (uint32_t place = 0; place < PLACES; place++)
+        put(block, place, any_word(chance));
+    if (mode == MODE_HYP)
+        scr |= SCR_NS;
+    if ((scr & SCR_NS) != 0 && is_el1(mode))
+        hcr &= ~(uint32_t)HCR_TGE;
+    put(block, CPSR, any_cpsr(chance, mode));
+    put(block, SCR, scr);
+    put(block, HCR, hcr);
+    if (one_in(chance, 16)) /* address sums that wrap */
+        put(block, PC, 0u - any_below(chance, 16));
+}
+
+/* A good block with one thing wrong. */
+static void almost_good_block(struct chance *chance, uint8_t *block)
+{
+    good_block(chance, block);
+    switch (any_below(chance, 3)) {
+    case 0:
+        put(block, CPSR, get(block, CPSR) | UINT32_C(1) << (21 + any_below(chance, 4)));
+        break;
+    case 1:
+        put(block, CPSR, any_cpsr(chance, MODE_HYP));
+        put(block, SCR, get(block, SCR) & ~(uint32_t)SCR_NS);
+        break;
+    default:
+        put(block, CPSR, any_cpsr(chance, MODES[any_below(chance, MODE_COUNT)]));
+        put(block, SCR, get(block, SCR) | SCR_NS);
+        put(block, HCR, get(block, HCR) | HCR_TGE);
+        break;
+    }
+}
+
+void any_block(struct chance *chance, uint8_t *block)
+{
+    switch (any_below(chance, 32)) {
+    case 0:
+        any_bytes(chance, block, BLOCK_SIZE);
+        break;
+    case 1:
+        almost_good_block(chance, block);
+        break;
+    default:
+        good_block(chance, block);
+        break;
+    }
+}
+
+/* A note: now and then on a word that steers, and then mostly one that keeps the block good. */
+static struct event any_note(struct chance *chance, const uint8_t *block)
+{
+    struct event note = { CODE_NOTE, any_below(chance, PLACES), any_word(chance) };
+
+    if (one_in(chance, 2))
+        return note;
+    note.a = CPSR + any_below(chance, HCR - CPSR + 1);
+    if (one_in(chance, 4))
+        return note;
+    if (note.a == CPSR)
+        note.b = any_cpsr(chance, MODES[any_below(chance, MODE_COUNT)]);
+    if (note.a == SCR)
+        note.b = (note.b & ~(uint32_t)SCR_NS) | (get(block, SCR) & SCR_NS);
+    if (note.a == HCR)
+        note.b &= ~(uint32_t)HCR_TGE;
+    return note;
+}
+
+struct event event_of(struct chance *chance, uint32_t code, const uint8_t *block)
+{
+    struct event event = { code, 0, 0 };
+
+    switch (code) {
+    case CODE_PREFETCH_ABORT:
+    case CODE_DATA_ABORT:
+        event.a = any_below(chance, 4);
+        break;
+    case CODE_INTERRUPT_CHECK:
+        event.a = any_below(chance, 32);
+        if (one_in(chance, 3)) /* with no physical one before it, a virtual one is taken */
+            event.a &= LINE_VFIQ | LINE_VIRQ;
+        break;
+    case CODE_BANKED_READ:
+        event.a = any_below(chance, 64);
+        break;
+    case CODE_BANKED_WRITE:
+        event.a = any_below(chance, 64);
+        event.b = any_word(chance);
+        break;
+    case CODE_NOTE:
+        return any_note(chance, block);
+    default:
+        break;
+    }
+    return event;
+}
+
+/* An event that is mostly none: an unknown code, or an operand just or far out of its range. */
+static struct event odd_event(struct chance *chance, const uint8_t *block)
+{
+    struct event event = event_of(chance, any_below(chance, 16), block);
+
+    switch (any_below(chance, 4)) {
+    case 0:
+        event.code = any_word(chance);
+        break;
+    case 1:
+        event.a = any_below(chance, 70);
+        break;
+    case 2:
+        event.a = any_word(chance);
+        break;
+    default:
+        event.b = any_word(chance);
+        break;
+    }
+    return event;
+}
+
+struct event any_event(struct chance *chance, const uint8_t *block)
+{
+    if (one_in(chance, 16))
+        return odd_event(chance, block);
+    if (one_in(chance, 8)) /* the event with the most cases */
+        return event_of(chance, CODE_INTERRUPT_CHECK, block);
+    return event_of(chance, 1 + any_below(chance, CODE_NOTE), block);
+}

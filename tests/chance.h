@@ -1,0 +1,43 @@
+/*
+ * Chance that repeats: numbers from a seed, and blocks and events made of
+ * them.  Most blocks are good and most events known, so that the rules are
+ * met and not only the refusals.
+ */
+#ifndef CHANCE_H
+#define CHANCE_H
+
+#include <stdbool.h>
+#include <stddef.h>
+#include <stdint.h>
+
+/* Where the numbers come from; any seed will do. */
+struct chance {
+    uint64_t seed;
+};
+
+struct event {
+    uint32_t code, a, b;
+};
+
+/* The nine modes. */
+#define MODE_COUNT 9
+extern const uint8_t MODES[MODE_COUNT];
+
+uint32_t any_word(struct chance *chance);
+uint32_t any_below(struct chance *chance, uint32_t limit);
+bool one_in(struct chance *chance, uint32_t times);
+void any_bytes(struct chance *chance, uint8_t *bytes, size_t length);
+
+/* A block of any words that is good. */
+void good_block(struct chance *chance, uint8_t *block);
+
+/* A block that is mostly good, sometimes almost, sometimes of any words. */
+void any_block(struct chance *chance, uint8_t *block);
+
+/* An event of the code, with operands in their ranges; the block helps a note to be done. */
+struct event event_of(struct chance *chance, uint32_t code, const uint8_t *block);
+
+/* An event that is mostly one of the twelve with operands in their ranges. */
+struct event any_event(struct chance *chance, const uint8_t *block);
+
+#endif

@@ -1,0 +1,200 @@
+/*
+ * The archive's checker against the second implementation's, on traces of
+ * chance, honest and damaged: number, place, Steps, guard bytes, and a trace
+ * that stays as it was.
+ *
+ *     compare_traces [THOUSANDS SEED]
+ *
+ * Prints how often each number was given and fails where one was too seldom.
+ */
+#include "chance.h"
+#include "edge.h"
+#include "group.h"
+#include "lent.h"
+#include "pomurica.h"
+#include "traces.h"
+
+#include "../second/second.h"
+#include "../second/words.h"
+
+#include <inttypes.h>
+#include <stdio.h>
+#include <stdlib.h>
+#include <string.h>
+
+/* Unless the arguments say otherwise. */
+#define THOUSANDS 40
+#define SEED 1
+
+/* How often each number is given, at least. */
+#define SELDOM 1000
+
+#define NUMBERS (TRAILING + 1)
+
+/* How often each number was given, by damage. */
+static unsigned long met[DAMAGES][NUMBERS];
+
+/* One call of a checker, and what came of it. */
+struct call {
+    struct lent report;
+    uint32_t number;
+    bool guards_kept, trace_kept;
+};
+
+typedef uint32_t check_function(const uint8_t *, size_t, uint8_t *, size_t);
+
+static void call_check(check_function *judge, const uint8_t *trace, size_t length,
+                       size_t report_len, struct call *call)
+{
+    static const uint8_t OLD_REPORT[LENT_MOST] = { 1, 2, 3, 4, 5, 6, 7, 8, 9, 10, 11, 12 };
+    const uint8_t *lent_trace = lend_at_edge(trace, length);
+    uint8_t *report = lend(&call->report, OLD_REPORT, report_len, length % 16);
+
+    call->number = judge(lent_trace, length, report, report_len);
+    call->guards_kept = take_back(&call->report);
+    call->trace_kept = memcmp(lent_trace, trace, length) == 0;
+}
+
+/* Whether both checkers give the same; ours is then what the archive gave. */
+static bool agree(const uint8_t *trace, size_t length, size_t report_len, struct call *ours)
+{
+    struct call theirs;
+    bool right;
+
+    call_check(pomurica_check, trace, length, report_len, ours);
+    call_check(second_check, trace, length, report_len, &theirs);
+    right = check(ours->number == theirs.number, "number %" PRIu32 ", second %" PRIu32,
+                  ours->number, theirs.number);
+    right &= check(memcmp(bytes_of(&ours->report), bytes_of(&theirs.report), report_len) == 0,
+                   "the reports differ");
+    right &= check(ours->guards_kept && theirs.guards_kept, "a guard byte changed");
+    right &= check(ours->trace_kept && theirs.trace_kept, "the trace changed");
+    return right;
+}
+
+/* Both give what is expected. */
+static bool compare(const uint8_t *trace, size_t length, const struct expected *expected,
+                    struct call *ours)
+{
+    const uint8_t *report;
+
+    if (!agree(trace, length, REPORT_SIZE, ours))
+        return false;
+    if (!expected->known)
+        return true;
+    report = bytes_of(&ours->report);
+    return check(get_word(report) == expected->number && get_word(report + 4) == expected->place &&
+                     get_word(report + 8) == expected->steps,
+                 "%" PRIu32 " %" PRIu32 " %" PRIu32 ", not %" PRIu32 " %" PRIu32 " %" PRIu32,
+                 get_word(report), get_word(report + 4), get_word(report + 8),
+                 expected->number, expected->place, expected->steps);
+}
+
+/* Worked case l, side by side. */
+static void compare_case_l(void)
+{
+    static const uint8_t SHORTEST[192] = { [0] = 0xB8, [2] = 1, [184] = 8, [186] = 3 };
+    struct call ours;
+
+    compare(SHORTEST, 192, &(struct expected){ true, DONE, 192, 0 }, &ours);
+    compare(SHORTEST, 191, &(struct expected){ true, SHORT, 184, 0 }, &ours);
+    compare(SHORTEST, 0, &(struct expected){ true, SHORT, 0, 0 }, &ours);
+}
+
+/* A report of another size. */
+static void compare_sizes(struct chance *chance, uint8_t *trace)
+{
+    struct expected expected;
+    struct call ours;
+
+    for (size_t report_len = 0; report_len <= 200; report_len++) {
+        const size_t length = make_trace(chance, HONEST, trace, &expected);
+
+        agree(trace, length, report_len, &ours);
+        if (report_len != REPORT_SIZE)
+            check(ours.number == BAD_SIZE && is_unchanged(&ours.report),
+                  "report of %zu bytes: number %" PRIu32, report_len, ours.number);
+    }
+}
+
+/* The longest trace there is, and what can be wrong at its end. */
+static void compare_longest(struct chance *chance)
+{
+    const uint32_t longest = POMURICA_LONGEST_TRACE;
+    const uint32_t end = longest - POMURICA_END_SIZE, last = end - POMURICA_STEP_SIZE;
+    uint8_t *trace = malloc(longest + 1);
+    struct call ours;
+
+    if (!check(trace != NULL, "no memory"))
+        return;
+    check(record_trace(chance, POMURICA_MOST_STEPS, trace) == longest, "not the longest");
+    trace[longest] = 0;
+    compare(trace, longest, &(struct expected){ true, DONE, longest, 65535 }, &ours);
+    compare(trace, longest + 1, &(struct expected){ true, TRAILING, longest, 65535 }, &ours);
+    compare(trace, longest - 1, &(struct expected){ true, SHORT, end, 65535 }, &ours);
+    trace[end - 1] ^= 0x80;
+    compare(trace, longest, &(struct expected){ true, WRONG_STEP, last, 65534 }, &ours);
+    free(trace);
+}
+
+static void compare_random(struct chance *chance, unsigned long count, uint8_t *trace)
+{
+    struct expected expected;
+    struct call ours;
+
+    for (unsigned long i = 0; i < count; i++) {
+        const enum damage damage = (enum damage)(i % DAMAGES);
+        const uint64_t seed = chance->seed;
+        const size_t length = make_trace(chance, damage, trace, &expected);
+
+        if (compare(trace, length, &expected, &ours))
+            met[damage][ours.number]++;
+        else
+            printf("        %s, %zu bytes, made from seed %" PRIu64 "\n", DAMAGE_NAMES[damage],
+                   length, seed);
+    }
+}
+
+static void show(void)
+{
+    static const uint32_t GIVEN[] = { DONE, SHORT, BAD_RECORD, BAD_COUNT, WRONG_STEP, TRAILING };
+    const size_t given_count = sizeof GIVEN / sizeof GIVEN[0];
+
+    printf("  %-36s", "");
+    for (size_t i = 0; i < given_count; i++)
+        printf(" %10s", pomurica_number_name(GIVEN[i]));
+    printf("\n");
+    for (uint32_t damage = 0; damage < DAMAGES; damage++) {
+        printf("  %-36s", DAMAGE_NAMES[damage]);
+        for (size_t i = 0; i < given_count; i++)
+            printf(" %10lu", met[damage][GIVEN[i]]);
+        printf("\n");
+    }
+    for (size_t i = 0; i < given_count; i++) {
+        unsigned long times = 0;
+
+        for (uint32_t damage = 0; damage < DAMAGES; damage++)
+            times += met[damage][GIVEN[i]];
+        check(times >= SELDOM, "%s: given %lu times", pomurica_number_name(GIVEN[i]), times);
+    }
+}
+
+int main(int argc, char **argv)
+{
+    const unsigned long thousands = argc > 1 ? strtoul(argv[1], NULL, 10) : THOUSANDS;
+    struct chance chance = { argc > 2 ? strtoull(argv[2], NULL, 10) : SEED };
+    static uint8_t trace[MADE_SIZE];
+
+    open_edge(POMURICA_LONGEST_TRACE + 1);
+    printf("%lu thousand traces, seed %" PRIu64 "\n", thousands, chance.seed);
+    group("worked case l, side by side");
+    compare_case_l();
+    group("a report of every size from 0 to 200");
+    compare_sizes(&chance, trace);
+    group("traces of chance, side by side, of every kind");
+    compare_random(&chance, thousands * 1000, trace);
+    show();
+    group("the longest trace, side by side");
+    compare_longest(&chance);
+    return summary();
+}

@@ -1,0 +1,20 @@
+/*
+ * What a test counts: a group of checks passes when every check in it held.
+ * A program of tests ends with the line `N passed, M failed`.
+ */
+#ifndef GROUP_H
+#define GROUP_H
+
+#include <stdbool.h>
+
+/* Closes the group before, if any, and opens one. */
+void group(const char *name);
+
+/* One check of the open group; tells what did not hold, the first few times.  Gives back whether it held. */
+__attribute__((format(printf, 2, 3)))
+bool check(bool held, const char *what, ...);
+
+/* Closes the last group, prints the count, and gives the exit status: 0 if no group failed. */
+int summary(void);
+
+#endif
