@@ -98,9 +98,6 @@ build_native() {
     (cd "$root" && gcc $strict -O1 -g -fsanitize=address,undefined -fno-sanitize-recover=all -Ihost -o "$native" "$@")
 }
 
-# Whether the archive exports the function.
-exports() { grep -aqw "$1" "$archive"; }
-
 # Whether FILE is there and nothing of the listed files and folders, from the root, is newer.
 is_fresh() {
     file=$1

@@ -1,0 +1,18 @@
+/*
+ * The step and the checker in plain C, written for speed: the yardstick for
+ * the proved ones.  Same calls as host/pomurica.h, same answers.
+ */
+#ifndef SPEED_H
+#define SPEED_H
+
+#include <stddef.h>
+#include <stdint.h>
+
+uint32_t fast_step(uint8_t *block, size_t block_len,
+                   uint32_t code, uint32_t a, uint32_t b,
+                   uint8_t *answer, size_t answer_len);
+
+uint32_t fast_check(const uint8_t *trace, size_t trace_len,
+                    uint8_t *report, size_t report_len);
+
+#endif
