@@ -153,12 +153,29 @@ fn write_entry(block: &mut [u8], cpsr: u32, to: u32, offset: u32, link: u32)
     put_word(block, place::PC, wrapping_add_u32(start, offset));
 }
 
-// An entry to the mode `to` at an offset, with the word for its return address.
-pub fn enter(block: &mut [u8], to: u32, offset: u32, link: u32)
+// An entry to the mode `to`, one way for every mode.
+fn enter_mode(block: &mut [u8], to: u32, offset: u32, link: u32)
     requires { ⌜ (length (now block) ≡ BLOCK-SIZE) × (isTarget to ≡ true) ⌝ }
     ensures { λ _. ⌜ now (block .exit) ≡ entered (now (block .entry)) to offset link ⌝ }
 {
     let cpsr = get_word(block, place::CPSR);
     clear_ns(block, to);
     write_entry(block, cpsr, to, offset, link)
+}
+
+// An entry to the mode `to` at an offset, with the word for its return address. Each target is named, so that the compiler
+// makes an entry of its own for it, with its places and its masks as constants.
+pub fn enter(block: &mut [u8], to: u32, offset: u32, link: u32)
+    requires { ⌜ (length (now block) ≡ BLOCK-SIZE) × (isTarget to ≡ true) ⌝ }
+    ensures { λ _. ⌜ now (block .exit) ≡ entered (now (block .entry)) to offset link ⌝ }
+{
+    match to {
+        mode::FIQ => enter_mode(block, mode::FIQ, offset, link),
+        mode::IRQ => enter_mode(block, mode::IRQ, offset, link),
+        mode::SUPERVISOR => enter_mode(block, mode::SUPERVISOR, offset, link),
+        mode::MONITOR => enter_mode(block, mode::MONITOR, offset, link),
+        mode::ABORT => enter_mode(block, mode::ABORT, offset, link),
+        mode::HYP => enter_mode(block, mode::HYP, offset, link),
+        _ => enter_mode(block, mode::UNDEFINED, offset, link),
+    }
 }

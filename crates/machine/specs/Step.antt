@@ -87,6 +87,10 @@ answer b e = answerTo b (action b e)
 unfoldable pub after : List ℕ → Event → List ℕ
 after b e = blockAfter b (action b e)
 
+-- an answer in a buffer: number and value, four bytes each
+abbrev pub answerBytes : Answer → List ℕ
+answerBytes r = le32 (r .number) ++ le32 (r .value)
+
 -- the same over an answer buffer: "BAD_SIZE: block not 176 bytes, or answer buffer not 8", and then neither buffer changes
 abbrev pub sized : List ℕ → List ℕ → Bool
 sized b buffer = length b is BLOCK-SIZE && length buffer is ANSWER-SIZE
@@ -98,4 +102,4 @@ unfoldable pub blockLeft : List ℕ → Event → List ℕ → List ℕ
 blockLeft b e buffer = if sized b buffer then after b e else b
 
 unfoldable pub answerLeft : List ℕ → Event → List ℕ → List ℕ
-answerLeft b e buffer = if sized b buffer then le32 (answer b e .number) ++ le32 (answer b e .value) else buffer
+answerLeft b e buffer = if sized b buffer then answerBytes (answer b e) else buffer

@@ -2,7 +2,7 @@
 ghost use mathlib.Core.Path.{_≡_};
 ghost use mathlib.Core.Bool.{true};
 ghost use mathlib.Core.List.{_++_};
-ghost use Prim.Native.Nat.{_<_};
+ghost use Prim.Native.Nat.{_<_, _^_};
 ghost use lib.ListN.{length};
 ghost use Rattle.words.specs.Word.{le32};
 ghost use Rattle.state.specs.Mode.{isTarget};
@@ -19,6 +19,7 @@ ghost use Rattle.machine.specs.Step.{
   numberReturned,
   blockLeft,
   answerLeft,
+  answerBytes,
 };
 ghost use Rattle.machine.specs.Verdict.{value, answerFor, refusedWith};
 use crate::action::Action;
@@ -133,6 +134,30 @@ fn act(block: &mut [u8], action: Action) -> Answer
     }
 }
 
+// Number and value, four bytes each.
+fn write_answer(buffer: &mut [u8], number: u32, value: u32)
+    requires { ⌜ length (now buffer) ≡ ANSWER-SIZE ⌝ }
+    ensures { λ _. ⌜ now (buffer .exit) ≡ (le32 number ++ le32 value) ⌝ }
+{
+    put_word(buffer, 0, number);
+    put_word(buffer, 1, value);
+}
+
+// The event is decided, carried out and answered, in buffers that have their sizes. Both ways in end here, so that neither
+// pays for a call inside the other.
+fn perform(block: &mut [u8], code: u32, a: u32, b: u32, buffer: &mut [u8]) -> u32
+    requires { ⌜ (length (now block) ≡ BLOCK-SIZE) × (length (now buffer) ≡ ANSWER-SIZE) ⌝ }
+    ensures number { λ r. ⌜ r ≡ answer (now (block .entry)) (record { code = code; a = a; b = b }) .number ⌝ }
+    ensures leaves { λ _. ⌜ now (block .exit) ≡ after (now (block .entry)) (record { code = code; a = a; b = b }) ⌝ }
+    ensures answers { λ _. ⌜ now (buffer .exit) ≡ answerBytes (answer (now (block .entry)) (record { code = code; a = a; b = b })) ⌝ }
+    ensures fits { λ _. ⌜ answer (now (block .entry)) (record { code = code; a = a; b = b }) .value < 2 ^ 32 ⌝ }
+{
+    let action = decide(block, code, a, b);
+    let r = act(block, action);
+    write_answer(buffer, r.number, r.value);
+    r.number
+}
+
 // One event on a block of any size: the core that everything else stands on.
 pub fn step_event(block: &mut [u8], e: Event) -> Answer
     ensures answers { λ r. ⌜ r ≡ answer (now (block .entry)) e ⌝ }
@@ -141,17 +166,12 @@ pub fn step_event(block: &mut [u8], e: Event) -> Answer
     if block.len() != place::BLOCK_SIZE {
         return refused(number::BAD_SIZE);
     }
-    let action = decide(block, e.code, e.a, e.b);
-    act(block, action)
-}
-
-// Number and value, four bytes each.
-fn write_answer(buffer: &mut [u8], number: u32, value: u32)
-    requires { ⌜ length (now buffer) ≡ ANSWER-SIZE ⌝ }
-    ensures { λ _. ⌜ now (buffer .exit) ≡ (le32 number ++ le32 value) ⌝ }
-{
-    put_word(buffer, 0, number);
-    put_word(buffer, 1, value);
+    let mut buffer = [0u8; ANSWER_SIZE];
+    let number = perform(block, e.code, e.a, e.b, &mut buffer);
+    Answer {
+        number: number,
+        value: get_word(&buffer, 1),
+    }
 }
 
 // The same over a lent answer buffer; the number is returned too.
@@ -166,14 +186,5 @@ pub fn step(block: &mut [u8], code: u32, a: u32, b: u32, buffer: &mut [u8]) -> u
     if buffer.len() != ANSWER_SIZE {
         return number::BAD_SIZE;
     }
-    let r = step_event(
-        block,
-        Event {
-            code: code,
-            a: a,
-            b: b,
-        },
-    );
-    write_answer(buffer, r.number, r.value);
-    r.number
+    perform(block, code, a, b, buffer)
 }

@@ -1,4 +1,4 @@
--- A wrong size leaves both buffers; else one step, and its answer written.
+-- A wrong size leaves both buffers; else the event is performed.
 use borrow.Author.Needs.{needs}
 use Rattle.machine.proofs.Stepping.{wrong-block, wrong-buffer, right-sizes}
 use Rattle.machine.proofs.step.step.Statement.{statement}
@@ -10,11 +10,8 @@ returns c = wrong-block _ _ _ (c .if1 .taken)
 returns-2 : tie.Need-returns-2
 returns-2 c = wrong-buffer _ _ _ (c .before .if1 .left) (c .if2 .taken)
 
-step-event-requires : tie.Need-step-event-requires
-step-event-requires c κs = search needs
-
-write-answer-requires : tie.Need-write-answer-requires
-write-answer-requires c κs = search needs
+perform-requires : tie.Need-perform-requires
+perform-requires c κs = search needs
 
 same-length : tie.Need-same-length
 same-length c = search needs
@@ -23,16 +20,8 @@ same-length-2 : tie.Need-same-length-2
 same-length-2 c = search needs
 
 returns-3 : tie.Need-returns-3
-returns-3 c = right-sizes _ _ _ (c .before .before .before .before .before .before .before .before .before .if1 .left) (c .before .before .before .before .before .before .before .before .if2 .left) (c .before .before .before .before .before .before .step-event .ensures) (c .before .before .write-answer .ensures)
+returns-3 c = right-sizes _ _ _ (c .before .before .before .before .before .before .before .before .if1 .left) (c .before .before .before .before .before .before .before .if2 .left) (c .before .before .before .before .perform .ensures)
 
 pub step-spec : {M : Type 1} → statement M
 step-spec =
-    tie.close
-    (tie.spec
-    returns
-    returns-2
-    step-event-requires
-    write-answer-requires
-    same-length
-    same-length-2
-    returns-3)
+    tie.close (tie.spec returns returns-2 perform-requires same-length same-length-2 returns-3)
