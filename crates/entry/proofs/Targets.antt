@@ -54,12 +54,12 @@ pub left-over : (to : ℕ) → IsTarget to → (to ≡ FIQ → ⊥) → (to ≡ 
 unfolding isTarget
 left-over to h f i s m a y = by (to is UNDEFINED) refl
   where
-  by : (t : Bool) → (to is UNDEFINED) ≡ t → to ≡ UNDEFINED
-  by true e = eqb-true to UNDEFINED e
-  by false e =
-      absurd
-      (true-is-not-false h
-      (rw (ne-eqb to FIQ f, ne-eqb to IRQ i, ne-eqb to SUPERVISOR s, ne-eqb to ABORT a, e, ne-eqb to MONITOR m, ne-eqb to HYP y)))
+    by : (t : Bool) → (to is UNDEFINED) ≡ t → to ≡ UNDEFINED
+    by true e = eqb-true to UNDEFINED e
+    by false e =
+        absurd
+        (true-is-not-false h
+        (rw (ne-eqb to FIQ f, ne-eqb to IRQ i, ne-eqb to SUPERVISOR s, ne-eqb to ABORT a, e, ne-eqb to MONITOR m, ne-eqb to HYP y)))
 
 own-target : (code : ℕ) → IsTarget (ownMode code)
 unfolding isTarget

@@ -75,8 +75,8 @@ returns-7 : tie.Need-returns-7
 returns-7 c =
     let k = c .before .before .before .before .match .rest in
     let e =
-        left-over _ (c .before .before .before .before .before .before .pre .1) (k .0 .0 .0 .0 .0 .1) (k .0 .0 .0 .0 .1) (k .0 .0 .0 .1)
-        (k .0 .0 .1) (k .0 .1) (k .1) in
+    left-over _ (c .before .before .before .before .before .before .pre .1) (k .0 .0 .0 .0 .0 .1) (k .0 .0 .0 .0 .1) (k .0 .0 .0 .1)
+    (k .0 .0 .1) (k .0 .1) (k .1) in
     named _ _ _ e (c .before .before .enter-mode7 .ensures)
 
 pub enter-spec : {M : Type 1} → statement M
