@@ -28,14 +28,17 @@
 
 /* The rows of the masking table (document 01, "The interrupt check"). */
 #define ROWS 7
-static const char *const ROW_NAMES[ROWS] = {
-    "Secure",
-    "Non-secure, M 0, R 0",
-    "Non-secure, M 0, R 1, W 0",
-    "Non-secure, M 0, R 1, W 1",
-    "Non-secure, not Hyp, M 1",
-    "Hyp, M 1, R 0",
-    "Hyp, M 1, R 1",
+static const struct {
+    const char *name;
+    bool ignored; /* what it says of the mask bit */
+} MASKING[ROWS] = {
+    { "Secure", false },
+    { "Non-secure, M 0, R 0", false },
+    { "Non-secure, M 0, R 1, W 0", true },
+    { "Non-secure, M 0, R 1, W 1", false },
+    { "Non-secure, not Hyp, M 1", true },
+    { "Hyp, M 1, R 0", false },
+    { "Hyp, M 1, R 1", true },
 };
 
 #define NUMBERS (NO_RIGHT + 1)
@@ -155,7 +158,7 @@ static void count_rows(const uint8_t *block, uint32_t lines)
                      (scr & PHYSICAL[i].r) != 0,
                      PHYSICAL[i].w == 0 || (scr & PHYSICAL[i].w) != 0);
         met.row[row]++;
-        if (row == 2 || row == 4 || row == 6)
+        if (MASKING[row].ignored)
             return;
     }
 }
@@ -246,7 +249,7 @@ static void show_entries(void)
         enough(WHICH_NAMES[which], met.which[which]);
     enough("nothing taken", met.nothing_taken);
     for (uint32_t row = 0; row < ROWS; row++)
-        enough(ROW_NAMES[row], met.row[row]);
+        enough(MASKING[row].name, met.row[row]);
 }
 
 static void show_pairs(void)
