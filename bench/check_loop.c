@@ -1,7 +1,8 @@
 /*
  * Checked Steps to be counted: one call over a prepared honest trace.
  *
- *     check_loop prepare FILE     records the trace: the twelve codes as often, nine Steps in ten done
+ *     check_loop prepare FILE     records the trace: nine Steps in ten done, HVC and Hyp Trap half as
+ *                                 often as each other code, since few blocks of a trace let them happen
  *     check_loop count WHO FILE   judges it once; WHO: nothing, ours, c, bytes
  *     check_loop time WHO FILE    prints nanoseconds a Step
  */

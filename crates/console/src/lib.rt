@@ -1,3 +1,4 @@
 // The C face: every exported function, thin and total. How it is done is the business of the crates below.
 pub mod check;
+pub mod explanation;
 pub mod step;

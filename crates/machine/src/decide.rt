@@ -124,13 +124,11 @@ fn fault_in(block: &[u8]) -> u32
     )
 }
 
-// What the event comes to.
-pub fn decide(block: &[u8], code: u32, a: u32, b: u32) -> Action
+// What the event comes to, on a block that has its size.
+pub(crate) fn decide(block: &[u8], code: u32, a: u32, b: u32) -> Action
+    requires { ⌜ length (now block) ≡ BLOCK-SIZE ⌝ }
     ensures { λ r. ⌜ r ≡ action (now (block .entry)) (record { code = code; a = a; b = b }) ⌝ }
 {
-    if block.len() != place::BLOCK_SIZE {
-        return Action::Refuse(number::BAD_SIZE);
-    }
     let n = fault_in(block);
     if n != number::DONE {
         return Action::Refuse(n);

@@ -12,7 +12,7 @@ use Rattle.trace.specs.Claims.{startOf, eventsFrom, eventsOf}
 use Rattle.trace.proofs.Records.{start-count, start-block, start-rest, step-event, step-rest}
 
 module _ (L : Layout) (LL : Lawful L) where
-  events-back : (es : List Event) (b t : List ℕ) → length b ≡ L .size → AreEvents es
+  pub events-back : (es : List Event) (b t : List ℕ) → length b ≡ L .size → AreEvents es
       → eventsFrom L (length es) (stepRecords L b es ++ t) ≡ es
   unfolding eventsFrom stepRecords
   events-back [] b t h ok = refl

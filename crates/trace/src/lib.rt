@@ -26,7 +26,7 @@ const BAD_RECORD: u32 = 9;
 
 const BAD_COUNT: u32 = 10;
 
-const WRONG_STEP: u32 = 11;
+pub const WRONG_STEP: u32 = 11;
 
 const TRAILING: u32 = 12;
 
@@ -37,7 +37,7 @@ const START_SIZE: u32 = 184;
 
 const START_KIND: u32 = 1;
 
-const STEP_SIZE: u32 = 200;
+pub const STEP_SIZE: u32 = 200;
 
 const STEP_KIND: u32 = 2;
 
@@ -52,17 +52,17 @@ const COUNT: usize = 4;
 
 const START_BLOCK: usize = 8;
 
-const CODE: usize = 4;
+pub const CODE: usize = 4;
 
-const A: usize = 8;
+pub const A: usize = 8;
 
-const B: usize = 12;
+pub const B: usize = 12;
 
-const NUMBER: usize = 16;
+pub const NUMBER: usize = 16;
 
-const VALUE: usize = 20;
+pub const VALUE: usize = 20;
 
-const BLOCK_AFTER: usize = 24;
+pub const BLOCK_AFTER: usize = 24;
 
 // What the checker answers: a number, the place, and the Steps found right before it.
 #[repr(C)]

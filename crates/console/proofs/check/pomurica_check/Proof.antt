@@ -1,5 +1,5 @@
 -- A buffer of another size is refused at once; twelve bytes take the three words of what the checker found.
-use mathlib.Core.List.{List}
+use mathlib.Core.List.{List, [], _∷_}
 use mathlib.Core.Path.{ap, _∙_}
 use Prim.Native.Nat.{ℕ}
 use borrow.Author.Needs.{needs}
@@ -10,8 +10,6 @@ use Rattle.console.proofs.check.pomurica_check.Tie as tie
 use Rattle.console.specs.Check.{reportBytes, checkReturns, checkLeaves}
 use Rattle.trace.specs.declared.Report.{Report}
 use Rattle.words.specs.Word.{put}
-
--- A buffer of another size is refused at once; twelve bytes take the three words of what the checker found.
 
 returns : tie.Need-returns
 unfolding checkReturns checkLeaves
@@ -48,7 +46,7 @@ returns-2 c =
     let three = third .put-word3 .ensures ∙ ap (λ (l : List ℕ). put l 2 (v .steps)) two in (
       simp (eq-eqb _ _ size) (ap (λ (w : Report). w .number) is),
       (
-        simp (eq-eqb _ _ size) (three ∙ filled b (v .number) (v .place) (v .steps) size ∙ ap reportBytes is),
+        simp (eq-eqb _ _ size) (three ∙ filled (v .number ∷ v .place ∷ v .steps ∷ []) b size ∙ ap reportBytes is),
         λ e.
             found .check .ensures .1,
       ),

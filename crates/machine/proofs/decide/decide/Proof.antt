@@ -1,10 +1,10 @@
--- The size, the block, the event, and then its code: the ways through the rows of refusals.
+-- The block, the event, and then its code: the ways through the rows of refusals.
 use mathlib.Core.List.{List}
 use mathlib.Core.Path.{_≡_, sym, ap, _∙_}
 use Prim.Native.Nat.{ℕ}
 use borrow.Author.Needs.{needs}
-use borrow.Author.Tests.{eq-eqb, ne-eqb}
-use Rattle.machine.proofs.Deciding.{bad-size, faulty, bad-event, fault-clear, decided}
+use borrow.Author.Tests.{eq-eqb}
+use Rattle.machine.proofs.Deciding.{faulty, bad-event, fault-clear, decided}
 use Rattle.machine.proofs.decide.decide.Statement.{statement}
 use Rattle.machine.proofs.decide.decide.Tie as tie
 use Rattle.machine.specs.Event.{Event}
@@ -17,42 +17,38 @@ use Rattle.state.specs.State.{fault}
 refuse : (b : List ℕ) (e : Event) {n : ℕ} → n ≡ fault b → Refuse (fault b) ≡ action b e → Refuse n ≡ action b e
 refuse b e h k = rw h k
 
-returns : tie.Need-returns
-returns c = bad-size _ _ (ne-eqb _ _ (c .if1 .taken))
-
 fault-in-requires : tie.Need-fault-in-requires
 fault-in-requires c κs = search needs
 
-returns-2 : tie.Need-returns-2
-returns-2 c =
+returns : tie.Need-returns
+returns c =
     refuse _ _ (c .before .fault-in .ensures)
-    (faulty _ _ (eq-eqb _ _ (c .before .before .if1 .left)) (λ z. c .if2 .taken (c .before .fault-in .ensures ∙ z)))
+    (faulty _ _ (eq-eqb _ _ (c .before .before .before .pre)) (λ z. c .if1 .taken (c .before .fault-in .ensures ∙ z)))
 
 is-bad-requires : tie.Need-is-bad-requires
 is-bad-requires c κs = search needs
 
-returns-3 : tie.Need-returns-3
-returns-3 c =
-    let f = fault-clear _ (sym (c .before .before .before .fault-in .ensures) ∙ c .before .before .if2 .left) in
-    bad-event _ _ (eq-eqb _ _ (c .before .before .before .before .if1 .left)) (f .0) (f .1) (told (c .before .is-bad .ensures) (c .if3 .taken))
+returns-2 : tie.Need-returns-2
+returns-2 c =
+    let f = fault-clear _ (sym (c .before .before .before .fault-in .ensures) ∙ c .before .before .if1 .left) in
+    bad-event _ _ (eq-eqb _ _ (c .before .before .before .before .before .pre)) (f .0) (f .1) (told (c .before .is-bad .ensures) (c .if2 .taken))
 
 by-code-requires : tie.Need-by-code-requires
 by-code-requires c κs = search needs
 
-returns-4 : tie.Need-returns-4
-returns-4 c =
-    let f = fault-clear _ (sym (c .before .before .before .before .fault-in .ensures) ∙ c .before .before .before .if2 .left) in
+returns-3 : tie.Need-returns-3
+returns-3 c =
+    let f = fault-clear _ (sym (c .before .before .before .before .fault-in .ensures) ∙ c .before .before .before .if1 .left) in
     c .by-code .ensures
-    ∙ decided _ _ _ (eq-eqb _ _ (c .before .before .before .before .before .if1 .left)) (f .0) (f .1) _ (c .before .before .before .before .before .before .before .fits .b .fits) (told (c .before .before .is-bad .ensures) (c .before .if3 .left))
+    ∙ decided _ _ _ (eq-eqb _ _ (c .before .before .before .before .before .before .pre)) (f .0) (f .1) _ (c .before .before .before .before .before .before .fits .b .fits) (told (c .before .before .is-bad .ensures) (c .before .if2 .left))
 
 pub decide-spec : {M : Type 1} → statement M
 decide-spec =
     tie.close
     (tie.spec
-    returns
     fault-in-requires
-    returns-2
+    returns
     is-bad-requires
-    returns-3
+    returns-2
     by-code-requires
-    returns-4)
+    returns-3)

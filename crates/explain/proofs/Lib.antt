@@ -1,0 +1,7 @@
+pub mod Differing
+pub mod Before
+pub mod Explaining
+pub mod SameWords
+pub mod Wrong
+pub mod Explains
+pub mod Theorems

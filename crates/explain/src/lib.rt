@@ -1,0 +1,143 @@
+// What is wrong with a trace that is refused with WRONG_STEP: which part of that Step differs first from what the rules
+// give from the block before it, the word found there and the word due.
+//
+// The block before is not stepped to again: the records before the Step were judged right, so it is the last 176 bytes
+// before the Step, the start block or the block after of the Step before.
+use machine::event::Event;
+use machine::step::step_event;
+use machine::verdict::Answer;
+use state::place;
+use words::get_word;
+use words::word_at;
+ghost use mathlib.Core.Path.{_≡_};
+ghost use Prim.Native.Nat.{_+_, _-_, _≤_};
+ghost use lib.ListN.{length, take, drop};
+ghost use Rattle.trace.specs.Layout.{layout01, startSize, stepSize};
+ghost use Rattle.explain.specs.Explain.{parts, NUMBER-PART, partWord, differing, stepDifference, explanation};
+
+// The parts of a Step: the answer number, the value, and from BLOCK_PART on the words of the block after.
+const NUMBER_PART: u32 = 1;
+
+const VALUE_PART: u32 = 2;
+
+const BLOCK_PART: u32 = 3;
+
+// The first part that differs, the word found there and the word due; all 0 where there is none.
+struct Difference {
+    pub part: u32,
+    pub found: u32,
+    pub due: u32,
+}
+
+// The checker's report, and what is wrong with a wrong Step.
+#[repr(C)]
+pub struct Explanation {
+    pub number: u32,
+    pub place: u32,
+    pub steps: u32,
+    pub part: u32,
+    pub found: u32,
+    pub due: u32,
+}
+
+// Where a Step that shows this answer and this block after differs first from the answer and the block that are due.
+fn first_difference(shown: Answer, after: &[u8], due: Answer, block: &[u8]) -> Difference
+    requires { ⌜ (length (now after) ≡ layout01 .size) × (length (now block) ≡ layout01 .size) ⌝ }
+    ensures { λ d. ⌜ d ≡ differing (parts layout01) NUMBER-PART (partWord shown (now (after .entry))) (partWord due (now (block .entry))) ⌝ }
+{
+    if shown.number != due.number {
+        return Difference {
+            part: NUMBER_PART,
+            found: shown.number,
+            due: due.number,
+        };
+    }
+    if shown.value != due.value {
+        return Difference {
+            part: VALUE_PART,
+            found: shown.value,
+            due: due.value,
+        };
+    }
+    let mut p = 0;
+    while p < place::PLACES {
+        let found = get_word(after, p);
+        let word = get_word(block, p);
+        if found != word {
+            return Difference {
+                part: BLOCK_PART + (p as u32),
+                found,
+                due: word,
+            };
+        }
+        p += 1;
+    }
+    Difference {
+        part: 0,
+        found: 0,
+        due: 0,
+    }
+}
+
+// How a whole Step differs from what the rules give from the block before, which is stepped.
+fn step_difference(r: &[u8], block: &mut [u8]) -> Difference
+    requires { ⌜ (stepSize layout01 ≤ length (now r)) × (length (now block) ≡ layout01 .size) ⌝ }
+    ensures { λ d. ⌜ d ≡ stepDifference layout01 (now (block .entry)) (now (r .entry)) ⌝ }
+{
+    let due = step_event(
+        block,
+        Event {
+            code: word_at(r, trace::CODE),
+            a: word_at(r, trace::A),
+            b: word_at(r, trace::B),
+        },
+    );
+    let shown = Answer {
+        number: word_at(r, trace::NUMBER),
+        value: word_at(r, trace::VALUE),
+    };
+    first_difference(
+        shown,
+        &r[trace::BLOCK_AFTER..trace::STEP_SIZE as usize],
+        due,
+        block,
+    )
+}
+
+// The same of the Step at this place of a trace, from the block that stands before it.
+fn difference_at(trace: &[u8], step: u32) -> Difference
+    requires { ⌜ (startSize layout01 ≤ step) × (step + stepSize layout01 ≤ length (now trace)) ⌝ }
+    ensures { λ d. ⌜ d ≡ stepDifference layout01 (take (layout01 .size) (drop (step - layout01 .size) (now (trace .entry)))) (drop step (now (trace .entry))) ⌝ }
+{
+    let at = step as usize;
+    let before = at - place::BLOCK_SIZE;
+    let mut block = [0u8; place::BLOCK_SIZE];
+    bytes::copy(&trace[before..at], &mut block);
+    step_difference(&trace[at..], &mut block)
+}
+
+// The explanation of any bytes.
+pub fn explain(trace: &[u8]) -> Explanation
+    ensures { λ r. ⌜ r ≡ explanation layout01 (now (trace .entry)) ⌝ }
+{
+    let report = trace::check(trace);
+    if report.number != trace::WRONG_STEP {
+        return Explanation {
+            number: report.number,
+            place: report.place,
+            steps: report.steps,
+            part: 0,
+            found: 0,
+            due: 0,
+        };
+    }
+    let wrong = difference_at(trace, report.place);
+    Explanation {
+        number: report.number,
+        place: report.place,
+        steps: report.steps,
+        part: wrong.part,
+        found: wrong.found,
+        due: wrong.due,
+    }
+}
