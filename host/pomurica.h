@@ -8,7 +8,7 @@
  * A trace is what a unit records of its steps; the checker accepts it exactly
  * when the rules can have made it.
  *
- * Link with libconsole.a.  Both functions are proved: for every input they
+ * Link with libconsole.a.  The three functions are proved: for every input they
  * return, give the one answer that the rules give, and write nothing but what
  * is said here.  They keep nothing between calls, take no memory and may be
  * called from several threads, each with buffers of its own.
@@ -35,6 +35,7 @@ enum {
     POMURICA_BLOCK_SIZE = 176,
     POMURICA_ANSWER_SIZE = 8,
     POMURICA_REPORT_SIZE = 12,
+    POMURICA_EXPLANATION_SIZE = 24,
     POMURICA_START_SIZE = 184,
     POMURICA_STEP_SIZE = 200,
     POMURICA_END_SIZE = 8
@@ -47,7 +48,7 @@ enum {
 #define POMURICA_LONGEST_TRACE \
     (POMURICA_START_SIZE + POMURICA_MOST_STEPS * POMURICA_STEP_SIZE + POMURICA_END_SIZE)
 
-/* Answer numbers: 0 to 7 of a step, 0, 1 and 8 to 12 of the checker. */
+/* Answer numbers: 0 to 7 of a step, 0, 1 and 8 to 12 of the checker and of an explanation. */
 enum pomurica_number {
     POMURICA_DONE = 0,        /* the step was done; the trace is accepted */
     POMURICA_BAD_SIZE = 1,    /* a buffer has not its size; nothing was written */
@@ -206,7 +207,32 @@ uint32_t pomurica_step(uint8_t *block, size_t block_len,
 uint32_t pomurica_check(const uint8_t *trace, size_t trace_len,
                         uint8_t *report, size_t report_len);
 
-/* The word at a place of a block, or word 0, 1, 2 of an answer or a report. */
+/* The parts of a Step that the rules decide: its answer's number and value, and the block after, place by place. */
+enum pomurica_part {
+    POMURICA_PART_NONE = 0,
+    POMURICA_PART_NUMBER = 1,
+    POMURICA_PART_VALUE = 2,
+    POMURICA_PART_BLOCK = 3 /* and the place: 3 to 46 */
+};
+
+/*
+ * What is wrong with a trace: the checker's report and, where that is
+ * POMURICA_WRONG_STEP, the first part of the Step that is not what the rules
+ * give from the block before it.
+ *
+ * trace        any bytes of any length; only read.
+ * explanation  24 bytes: number, place and Steps as pomurica_check has them,
+ *              then the part, the word found there and the word due, each a
+ *              little-endian word.  Part, found and due are 0 for any other
+ *              number.
+ *
+ * Returns the number.  POMURICA_BAD_SIZE, if explanation_len is not 24, writes
+ * nothing.
+ */
+uint32_t pomurica_explain(const uint8_t *trace, size_t trace_len,
+                          uint8_t *explanation, size_t explanation_len);
+
+/* The word at a place of a block, or of an answer, a report or an explanation, counted from 0. */
 static inline uint32_t pomurica_get_word(const uint8_t *bytes, size_t place)
 {
     const uint8_t *word = bytes + 4 * place;

@@ -1,0 +1,147 @@
+/*
+ * The explanation of a wrong Step, called from C: each part of each Step of an
+ * honest trace changed, two parts changed, traces damaged otherwise, and every
+ * length of the explanation from 0 to 200.
+ */
+#include "edge.h"
+#include "group.h"
+#include "pomurica.h"
+#include "traces.h"
+
+#include <string.h>
+
+enum {
+    STEPS = 20,
+    LENGTH = POMURICA_START_SIZE + STEPS * POMURICA_STEP_SIZE + POMURICA_END_SIZE,
+    PARTS = POMURICA_PART_BLOCK - 1 + POMURICA_PLACES,
+    FIRST_PART = 4, /* words of a Step before its parts */
+    DAMAGED = 2000, /* traces of each kind of damage */
+    GUARD = 0xA5
+};
+
+/* The words of an explanation. */
+struct told {
+    uint32_t returned, number, place, steps, part, found, due;
+};
+
+static struct told explain(const uint8_t *trace, size_t length)
+{
+    uint8_t words[POMURICA_EXPLANATION_SIZE];
+    struct told told;
+
+    memset(words, GUARD, sizeof words);
+    told.returned = pomurica_explain(lend_at_edge(trace, length), length, words, sizeof words);
+    told.number = pomurica_get_word(words, 0);
+    told.place = pomurica_get_word(words, 1);
+    told.steps = pomurica_get_word(words, 2);
+    told.part = pomurica_get_word(words, 3);
+    told.found = pomurica_get_word(words, 4);
+    told.due = pomurica_get_word(words, 5);
+    return told;
+}
+
+static uint8_t *part_of(uint8_t *trace, uint32_t step, uint32_t part)
+{
+    return trace + POMURICA_START_SIZE + step * POMURICA_STEP_SIZE + 4 * (FIRST_PART + part - 1);
+}
+
+/* Changes a part of a Step, and gives what it was. */
+static uint32_t change(uint8_t *trace, uint32_t step, uint32_t part, uint32_t bits)
+{
+    uint8_t *word = part_of(trace, step, part);
+    const uint32_t was = pomurica_get_word(word, 0);
+
+    pomurica_put_word(word, 0, was ^ bits);
+    return was;
+}
+
+static void check_told(const struct told *told, uint32_t step, uint32_t part, uint32_t found, uint32_t due)
+{
+    check(told->returned == POMURICA_WRONG_STEP && told->number == told->returned &&
+              told->place == POMURICA_START_SIZE + step * POMURICA_STEP_SIZE && told->steps == step &&
+              told->part == part && told->found == found && told->due == due,
+          "Step %u, part %u: told %u at %u after %u, part %u, found %x, due %x", (unsigned)step,
+          (unsigned)part, (unsigned)told->number, (unsigned)told->place, (unsigned)told->steps,
+          (unsigned)told->part, (unsigned)told->found, (unsigned)told->due);
+}
+
+/* Every part of every Step changed, with (more) or without another change behind it. */
+static void parts_changed(const uint8_t *honest, bool more)
+{
+    static uint8_t trace[LENGTH];
+
+    for (uint32_t step = 0; step < STEPS; step++)
+        for (uint32_t part = POMURICA_PART_NUMBER; part <= PARTS - (more ? 1 : 0); part++) {
+            const uint32_t bits = UINT32_C(1) << (step + part) % 32;
+            uint32_t due;
+            struct told told;
+
+            memcpy(trace, honest, LENGTH);
+            due = change(trace, step, part, bits);
+            if (more)
+                change(trace, step, PARTS, 1);
+            told = explain(trace, LENGTH);
+            check_told(&told, step, part, due ^ bits, due);
+        }
+}
+
+/* The first three words are the checker's, and the others are 0 but for a wrong Step. */
+static void damaged(struct chance *chance, enum damage damage)
+{
+    static uint8_t trace[MADE_SIZE];
+    struct expected expected;
+
+    for (int i = 0; i < DAMAGED; i++) {
+        const size_t length = make_trace(chance, damage, trace, &expected);
+        uint8_t report[POMURICA_REPORT_SIZE];
+        const uint32_t number = pomurica_check(trace, length, report, sizeof report);
+        const struct told told = explain(trace, length);
+        const bool is_wrong_step = number == POMURICA_WRONG_STEP;
+
+        check(told.returned == number && told.number == number &&
+                  told.place == pomurica_get_word(report, 1) && told.steps == pomurica_get_word(report, 2),
+              "%s: not the checker's report", DAMAGE_NAMES[damage]);
+        check(is_wrong_step ? told.part >= POMURICA_PART_NUMBER && told.part <= PARTS && told.found != told.due
+                            : (told.part | told.found | told.due) == 0,
+              "%s: part %u of %u", DAMAGE_NAMES[damage], (unsigned)told.part, (unsigned)number);
+    }
+}
+
+/* A wrong length is BAD_SIZE and writes nothing; the right one writes its 24 bytes alone. */
+static void lengths(const uint8_t *honest)
+{
+    uint8_t room[202], guards[sizeof room];
+
+    memset(guards, GUARD, sizeof guards);
+    for (size_t length = 0; length <= 200; length++) {
+        const bool is_right = length == POMURICA_EXPLANATION_SIZE;
+        const size_t written = is_right ? length : 0;
+        uint32_t number;
+
+        memset(room, GUARD, sizeof room);
+        number = pomurica_explain(honest, LENGTH, room + 1, length);
+        check(number == (is_right ? POMURICA_DONE : POMURICA_BAD_SIZE) && room[0] == GUARD &&
+                  memcmp(room + 1 + written, guards, sizeof room - 1 - written) == 0,
+              "length %u", (unsigned)length);
+    }
+}
+
+int main(void)
+{
+    static uint8_t honest[LENGTH];
+    struct chance chance = { 7 };
+
+    open_edge(MADE_SIZE);
+    record_trace(&chance, STEPS, honest);
+    group("each part of each Step changed");
+    parts_changed(honest, false);
+    group("two parts changed: the first is told");
+    parts_changed(honest, true);
+    for (int damage = HONEST; damage < DAMAGES; damage++) {
+        group(DAMAGE_NAMES[damage]);
+        damaged(&chance, (enum damage)damage);
+    }
+    group("every length of the explanation from 0 to 200");
+    lengths(honest);
+    return summary();
+}
