@@ -25,21 +25,18 @@ enum-told-4 c = search needs
 irq-way-requires : tie.Need-irq-way-requires
 irq-way-requires c κs = search needs
 
--- /work/main/target/rlib/state.rlib/interface/lang/src/mode.rt:8:26
 enum-told-5 : tie.Need-enum-told-5
 enum-told-5 c = search needs
 
 guest-way-requires : tie.Need-guest-way-requires
 guest-way-requires c κs = search needs
 
--- /work/main/target/rlib/state.rlib/interface/lang/src/mode.rt:4:24
 enum-told-6 : tie.Need-enum-told-6
 enum-told-6 c = search needs
 
 guest-way-requires-2 : tie.Need-guest-way-requires-2
 guest-way-requires-2 c κs = search needs
 
--- /work/main/target/rlib/state.rlib/interface/lang/src/mode.rt:5:24
 enum-told-7 : tie.Need-enum-told-7
 enum-told-7 c = search needs
 
