@@ -5,6 +5,7 @@
 #define _POSIX_C_SOURCE 200809L
 
 #include "pomurica.h"
+#include "tell.h"
 
 #include <errno.h>
 #include <fcntl.h>
@@ -36,7 +37,7 @@ enum status {
 #define BETWEEN_PROGRESS INT64_C(100000000)
 
 static const char USAGE[] =
-    "usage: console [--quiet] [--] FILE...\n"
+    "usage: console [--quiet] [--explain] [--trace] [--] FILE...\n"
     "       console --help\n";
 
 static const char HELP[] =
@@ -47,6 +48,8 @@ static const char HELP[] =
     "    FILE: refused NUMBER NAME at byte PLACE after N Steps\n"
     "\n"
     "  -         standard input\n"
+    "  --explain under a refused trace, say what was due and what was there\n"
+    "  --trace   under each, list its Steps up to the first wrong one\n"
     "  --quiet   print no line, only set the exit status; what goes wrong is still told\n"
     "  --help    print this\n"
     "  --        end of the options: what follows are files\n"
@@ -56,7 +59,7 @@ static const char HELP[] =
 
 /* What the arguments ask for. */
 struct wish {
-    bool quiet, help;
+    bool quiet, explain, trace, help;
     char **files; /* the arguments that are files, in order */
     size_t file_count;
 };
@@ -86,6 +89,10 @@ static bool parse(int argc, char **argv, struct wish *wish)
             options = false;
         } else if (strcmp(argv[i], "--quiet") == 0) {
             wish->quiet = true;
+        } else if (strcmp(argv[i], "--explain") == 0) {
+            wish->explain = true;
+        } else if (strcmp(argv[i], "--trace") == 0) {
+            wish->trace = true;
         } else if (strcmp(argv[i], "--help") == 0) {
             wish->help = true;
         } else {
@@ -188,7 +195,7 @@ static void send_output(void)
     exit(TROUBLE);
 }
 
-/* Prints the verdict on a file, as one whole line. */
+/* Prints the verdict on a file, as one whole line; report has it in its first three words. */
 static void print_verdict(const char *name, const uint8_t *report)
 {
     const uint32_t number = pomurica_get_word(report, 0);
@@ -201,14 +208,25 @@ static void print_verdict(const char *name, const uint8_t *report)
     else
         printf(": refused %" PRIu32 " %s at byte %" PRIu32 " after %" PRIu32 " Steps\n",
                number, pomurica_number_name(number), place, steps);
+}
+
+/* Prints what is asked for of a file that was read. */
+static void print_file(const char *name, const uint8_t *bytes, size_t length, const struct wish *wish,
+                       const uint8_t *explanation)
+{
+    print_verdict(name, explanation);
+    if (wish->trace)
+        tell_steps(stdout, bytes, explanation);
+    if (wish->explain)
+        tell_refusal(stdout, bytes, length, explanation);
     send_output();
 }
 
 /* Judges one file; bytes has room for MOST_READ. */
-static enum status judge_file(const char *name, uint8_t *bytes, bool quiet,
+static enum status judge_file(const char *name, uint8_t *bytes, const struct wish *wish,
                               struct progress *progress)
 {
-    uint8_t report[POMURICA_REPORT_SIZE];
+    uint8_t explanation[POMURICA_EXPLANATION_SIZE];
     size_t length;
     const int reason = read_file(name, bytes, &length);
 
@@ -216,12 +234,12 @@ static enum status judge_file(const char *name, uint8_t *bytes, bool quiet,
         hide_progress(progress);
         return complain(name, reason);
     }
-    pomurica_check(bytes, length, report, sizeof report);
-    if (!quiet) {
+    pomurica_explain(bytes, length, explanation, sizeof explanation);
+    if (!wish->quiet) {
         hide_progress(progress);
-        print_verdict(name, report);
+        print_file(name, bytes, length, wish, explanation);
     }
-    return pomurica_get_word(report, 0) == POMURICA_DONE ? ALL_ACCEPTED : ANY_REFUSED;
+    return pomurica_get_word(explanation, 0) == POMURICA_DONE ? ALL_ACCEPTED : ANY_REFUSED;
 }
 
 static enum status judge_files(const struct wish *wish, uint8_t *bytes)
@@ -234,7 +252,7 @@ static enum status judge_files(const struct wish *wish, uint8_t *bytes)
     enum status status = ALL_ACCEPTED;
 
     for (size_t i = 0; i < wish->file_count; i++) {
-        status = worse(status, judge_file(wish->files[i], bytes, wish->quiet, &progress));
+        status = worse(status, judge_file(wish->files[i], bytes, wish, &progress));
         show_progress(&progress, i + 1);
     }
     hide_progress(&progress);

@@ -5,6 +5,8 @@
 #include "pomurica.h"
 #include "second.h"
 
+#include <string.h>
+
 uint32_t pomurica_step(uint8_t *block, size_t block_len,
                        uint32_t code, uint32_t a, uint32_t b,
                        uint8_t *answer, size_t answer_len)
@@ -16,4 +18,39 @@ uint32_t pomurica_check(const uint8_t *trace, size_t trace_len,
                         uint8_t *report, size_t report_len)
 {
     return second_check(trace, trace_len, report, report_len);
+}
+
+/* Where the words of a Step lie: its event, and the parts that the rules decide. */
+enum {
+    CODE = 1, A = 2, B = 3, FIRST_PART = 4
+};
+
+/* The first part of a wrong Step that differs, into words 3 to 5 of the explanation. */
+static void explain_step(const uint8_t *step, uint8_t *explanation)
+{
+    uint8_t due[POMURICA_ANSWER_SIZE + POMURICA_BLOCK_SIZE];
+    uint32_t part = 0;
+
+    memcpy(due + POMURICA_ANSWER_SIZE, step - POMURICA_BLOCK_SIZE, POMURICA_BLOCK_SIZE);
+    second_step(due + POMURICA_ANSWER_SIZE, POMURICA_BLOCK_SIZE, pomurica_get_word(step, CODE),
+                pomurica_get_word(step, A), pomurica_get_word(step, B), due, POMURICA_ANSWER_SIZE);
+    while (pomurica_get_word(step, FIRST_PART + part) == pomurica_get_word(due, part))
+        part++;
+    pomurica_put_word(explanation, 3, POMURICA_PART_NUMBER + part);
+    pomurica_put_word(explanation, 4, pomurica_get_word(step, FIRST_PART + part));
+    pomurica_put_word(explanation, 5, pomurica_get_word(due, part));
+}
+
+uint32_t pomurica_explain(const uint8_t *trace, size_t trace_len,
+                          uint8_t *explanation, size_t explanation_len)
+{
+    uint32_t number;
+
+    if (explanation_len != POMURICA_EXPLANATION_SIZE)
+        return POMURICA_BAD_SIZE;
+    memset(explanation, 0, POMURICA_EXPLANATION_SIZE);
+    number = second_check(trace, trace_len, explanation, POMURICA_REPORT_SIZE);
+    if (number == POMURICA_WRONG_STEP)
+        explain_step(trace + pomurica_get_word(explanation, 1), explanation);
+    return number;
 }

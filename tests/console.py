@@ -126,6 +126,26 @@ def try_memory():
     expect_run('no memory', ['good'], 2, b'', b'console: no memory', preexec_fn=limit)
 
 
+def parted(out):
+    """The lines of verdicts, and for each how many lines are told under it."""
+    verdicts, told = b'', []
+    for line in out.splitlines(keepends=True):
+        if line.startswith(b'  '):
+            told[-1] += 1
+        else:
+            verdicts += line
+            told.append(0)
+    return verdicts, told
+
+
+def try_telling():
+    expect_run('--explain', ['--explain', 'good', 'cut'], 1,
+               b'good: accepted, 0 Steps\ncut: refused 8 SHORT at byte 184 after 0 Steps\n'
+               b'  the End of 8 bytes was due; only 7 are there\n')
+    expect_run('--explain --quiet', ['--explain', '--trace', '--quiet', 'cut'], 1, b'')
+    expect_run('--trace', ['--trace', 'good'], 0, b'good: accepted, 0 Steps\n')
+
+
 def try_folder():
     names = sorted(os.listdir(FOLDER))
     with open(LINES, 'rb') as file:
@@ -133,6 +153,10 @@ def try_folder():
     status, out, err = run(*[os.path.join(FOLDER, name) for name in names])
     wrong = [pair for pair in zip(out.splitlines(), lines.splitlines()) if pair[0] != pair[1]]
     expect(f'{len(names)} traces, honest and damaged', status == 1 and out == lines and err == b'', (status, err, wrong[:3]))
+    status, out, err = run('--explain', '--trace', *[os.path.join(FOLDER, name) for name in names])
+    verdicts, told = parted(out)
+    expect('the same, explained: the same verdicts', status == 1 and verdicts == lines and err == b'', (status, err))
+    expect('each refusal is explained', all(told[i] for i, line in enumerate(verdicts.splitlines()) if b': refused' in line))
 
 
 FOLDER, LINES = os.path.abspath(FOLDER), os.path.abspath(LINES)
@@ -142,6 +166,7 @@ with tempfile.TemporaryDirectory() as room:
     try_usage()
     try_input()
     try_output()
+    try_telling()
     if plain:
         try_memory()
     try_folder()
