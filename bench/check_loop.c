@@ -3,7 +3,7 @@
  *
  *     check_loop prepare FILE     records the trace: nine Steps in ten done, HVC and Hyp Trap half as
  *                                 often as each other code, since few blocks of a trace let them happen
- *     check_loop count WHO FILE   judges it once; WHO: nothing, ours, c, bytes
+ *     check_loop count WHO FILE   judges it once; WHO: nothing, ours, c, memcmp, bytes
  *     check_loop time WHO FILE    prints nanoseconds a Step
  */
 #include "prepared.h"
@@ -61,6 +61,8 @@ static check_function *check_of(const char *who)
         return pomurica_check;
     if (strcmp(who, "c") == 0)
         return fast_check;
+    if (strcmp(who, "memcmp") == 0)
+        return fast_check_by_memcmp;
     return strcmp(who, "bytes") == 0 ? compare_bytes : nothing;
 }
 

@@ -1,8 +1,8 @@
 /*
  * Whether what a Step says came of its event, answer, value and block after,
  * is what came: 184 bytes, sixteen at a time, without an early exit.  The C
- * library's memcmp is slower for so few, and differs from processor to
- * processor.
+ * library's memcmp (BY_MEMCMP) is slower for so few, and differs from
+ * processor to processor.
  */
 #ifndef SAME_H
 #define SAME_H
@@ -27,6 +27,12 @@ static inline lanes lanes_at(const uint8_t *bytes)
     return sixteen;
 }
 
+#ifdef BY_MEMCMP
+static inline bool is_same(const uint8_t *recorded, const uint8_t *outcome)
+{
+    return memcmp(recorded, outcome, OUTCOME_SIZE) == 0;
+}
+#else
 /* The outcome lies at a multiple of sixteen; the record may lie anywhere. */
 static inline bool is_same(const uint8_t *recorded, const uint8_t *outcome)
 {
@@ -38,5 +44,6 @@ static inline bool is_same(const uint8_t *recorded, const uint8_t *outcome)
         differing |= lanes_at(recorded + i) ^ lanes_at(aligned + i);
     return (differing[0] | differing[1]) == 0;
 }
+#endif
 
 #endif

@@ -15,4 +15,8 @@ uint32_t fast_step(uint8_t *block, size_t block_len,
 uint32_t fast_check(const uint8_t *trace, size_t trace_len,
                     uint8_t *report, size_t report_len);
 
+/* The same with the C library's memcmp in place of a comparison of its own. */
+uint32_t fast_check_by_memcmp(const uint8_t *trace, size_t trace_len,
+                              uint8_t *report, size_t report_len);
+
 #endif
