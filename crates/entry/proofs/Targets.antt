@@ -8,7 +8,7 @@ use borrow.Author.Tests.{eqb-true, ne-eqb}
 use Rattle.state.proofs.Test.{true-is-not-false}
 use Rattle.state.specs.Choice.{if_then_else_, _is_, _among_}
 use Rattle.state.specs.Field.{mode-field}
-use Rattle.state.specs.Mode.{FIQ, IRQ, SUPERVISOR, MONITOR, ABORT, HYP, UNDEFINED, isTarget}
+use Rattle.state.specs.Mode.{FIQ, IRQ, SUPERVISOR, MONITOR, ABORT, HYP, UNDEFINED, targets, isTarget}
 use Rattle.entry.specs.Code.{UNDEFINED-INSTRUCTION, SVC, SMC, HVC, PREFETCH-ABORT, DATA-ABORT, MONITOR-TRAP}
 use Rattle.entry.specs.Route.{toMonitor, toHyp, ownMode, target, ownOffset, offsetTo, offset}
 
@@ -20,33 +20,10 @@ chosen P false p q = q
 abbrev pub IsTarget : ℕ → Type 0
 IsTarget m = isTarget m ≡ true
 
-pub monitor-target : IsTarget MONITOR
+-- one of the list of targets, as antt computes it
+pub listed : (m : ℕ) → (m among targets) ≡ true → IsTarget m
 unfolding isTarget
-monitor-target = refl
-
-pub hyp-target : IsTarget HYP
-unfolding isTarget
-hyp-target = refl
-
-pub abort-target : IsTarget ABORT
-unfolding isTarget
-abort-target = refl
-
-pub fiq-target : IsTarget FIQ
-unfolding isTarget
-fiq-target = refl
-
-pub irq-target : IsTarget IRQ
-unfolding isTarget
-irq-target = refl
-
-pub supervisor-target : IsTarget SUPERVISOR
-unfolding isTarget
-supervisor-target = refl
-
-pub undefined-target : IsTarget UNDEFINED
-unfolding isTarget
-undefined-target = refl
+listed m h = h
 
 -- the target that is left when it is none of the other six
 pub left-over : (to : ℕ) → IsTarget to → (to ≡ FIQ → ⊥) → (to ≡ IRQ → ⊥) → (to ≡ SUPERVISOR → ⊥) → (to ≡ MONITOR → ⊥)
@@ -69,8 +46,8 @@ own-target code =
 pub target-is-one : (code a cpsr scr hcr : ℕ) → IsTarget (target code a cpsr scr hcr)
 unfolding target
 target-is-one code a cpsr scr hcr =
-    chosen IsTarget (toMonitor code a cpsr scr hcr) monitor-target
-    (chosen IsTarget (toHyp code a cpsr scr hcr) hyp-target (own-target code))
+    chosen IsTarget (toMonitor code a cpsr scr hcr) (listed MONITOR refl)
+    (chosen IsTarget (toHyp code a cpsr scr hcr) (listed HYP refl) (own-target code))
 
 abbrev pub IsOffset : ℕ → Type 0
 IsOffset n = n < 32

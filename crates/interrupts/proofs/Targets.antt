@@ -7,7 +7,7 @@ use Rattle.state.specs.Choice.{if_then_else_, _is_}
 use Rattle.state.specs.Field.{mode-field, HCR-TGE}
 use Rattle.state.specs.Mode.{MONITOR, HYP, isTarget}
 use Rattle.state.specs.State.{secure}
-use Rattle.entry.proofs.Targets.{chosen, IsTarget, monitor-target, hyp-target, IsOffset, offset-to-small}
+use Rattle.entry.proofs.Targets.{chosen, IsTarget, listed, IsOffset, offset-to-small}
 use Rattle.interrupts.specs.Check.{goes, offsetOf}
 use Rattle.interrupts.specs.Kind.{Kind, serror, fiq, irq, R, M, ownMode, ownOffset}
 
@@ -19,8 +19,8 @@ own-target irq = refl
 
 pub goes-target : (k : Kind) (cpsr scr hcr : ℕ) → IsTarget (goes k cpsr scr hcr)
 goes-target k cpsr scr hcr =
-    chosen IsTarget (R k scr) monitor-target
-    (chosen IsTarget (mode-field cpsr is HYP || (not (secure cpsr scr) && (HCR-TGE hcr || M k hcr))) hyp-target
+    chosen IsTarget (R k scr) (listed MONITOR refl)
+    (chosen IsTarget (mode-field cpsr is HYP || (not (secure cpsr scr) && (HCR-TGE hcr || M k hcr))) (listed HYP refl)
     (own-target k))
 
 pub own-small : (k : Kind) → IsOffset (ownOffset k)

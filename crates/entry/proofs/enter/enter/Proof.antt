@@ -1,36 +1,37 @@
 -- Each arm names the mode that it was taken for; the last arm's is the one that is left.
 use mathlib.Core.List.{List}
-use mathlib.Core.Path.{_≡_}
+use mathlib.Core.Path.{_≡_, refl}
 use Prim.Native.Nat.{ℕ}
 use borrow.Author.Needs.{needs}
-use Rattle.entry.proofs.Targets.{fiq-target, irq-target, supervisor-target, monitor-target, abort-target, hyp-target, undefined-target, left-over}
+use Rattle.entry.proofs.Targets.{listed, left-over}
 use Rattle.entry.proofs.enter.enter.Statement.{statement}
 use Rattle.entry.proofs.enter.enter.Tie as tie
 use Rattle.entry.specs.Enter.{entered}
+use Rattle.state.specs.Mode.{FIQ, IRQ, SUPERVISOR, MONITOR, ABORT, HYP, UNDEFINED}
 
 named : (b : List ℕ) (offset link : ℕ) {l : List ℕ} {to m : ℕ} → to ≡ m → l ≡ entered b m offset link → l ≡ entered b to offset link
 named b offset link e h = rw e h
 
 enter-mode-requires : tie.Need-enter-mode-requires
-enter-mode-requires c κs = (search needs, fiq-target)
+enter-mode-requires c κs = (search needs, listed FIQ refl)
 
 enter-mode-requires-2 : tie.Need-enter-mode-requires-2
-enter-mode-requires-2 c κs = (search needs, irq-target)
+enter-mode-requires-2 c κs = (search needs, listed IRQ refl)
 
 enter-mode-requires-3 : tie.Need-enter-mode-requires-3
-enter-mode-requires-3 c κs = (search needs, supervisor-target)
+enter-mode-requires-3 c κs = (search needs, listed SUPERVISOR refl)
 
 enter-mode-requires-4 : tie.Need-enter-mode-requires-4
-enter-mode-requires-4 c κs = (search needs, monitor-target)
+enter-mode-requires-4 c κs = (search needs, listed MONITOR refl)
 
 enter-mode-requires-5 : tie.Need-enter-mode-requires-5
-enter-mode-requires-5 c κs = (search needs, abort-target)
+enter-mode-requires-5 c κs = (search needs, listed ABORT refl)
 
 enter-mode-requires-6 : tie.Need-enter-mode-requires-6
-enter-mode-requires-6 c κs = (search needs, hyp-target)
+enter-mode-requires-6 c κs = (search needs, listed HYP refl)
 
 enter-mode-requires-7 : tie.Need-enter-mode-requires-7
-enter-mode-requires-7 c κs = (search needs, undefined-target)
+enter-mode-requires-7 c κs = (search needs, listed UNDEFINED refl)
 
 same-length : tie.Need-same-length
 same-length c = search needs
