@@ -4,12 +4,12 @@
  */
 #define _POSIX_C_SOURCE 200809L
 
+#include "phrases.h"
 #include "pomurica.h"
 #include "tell.h"
 
 #include <errno.h>
 #include <fcntl.h>
-#include <inttypes.h>
 #include <stdbool.h>
 #include <stdio.h>
 #include <stdlib.h>
@@ -198,16 +198,10 @@ static void send_output(void)
 /* Prints the verdict on a file, as one whole line; report has it in its first three words. */
 static void print_verdict(const char *name, const uint8_t *report)
 {
-    const uint32_t number = pomurica_get_word(report, 0);
-    const uint32_t place = pomurica_get_word(report, 1);
-    const uint32_t steps = pomurica_get_word(report, 2);
-
     print_name(stdout, name);
-    if (number == POMURICA_DONE)
-        printf(": accepted, %" PRIu32 " Steps\n", steps);
-    else
-        printf(": refused %" PRIu32 " %s at byte %" PRIu32 " after %" PRIu32 " Steps\n",
-               number, pomurica_number_name(number), place, steps);
+    fputs(": ", stdout);
+    tell_verdict(stdout, report);
+    fputc('\n', stdout);
 }
 
 /* Prints what is asked for of a file that was read. */

@@ -10,6 +10,9 @@ target=x86_64-unknown-linux-gnu
 archive=$root/target/staticlib/libconsole.a
 built=$root/target/host
 
+# The console program, which both ./console and ./test build.
+console_sources='host/console.c host/tell.c host/phrases.c'
+
 emulator=
 [ ! -x "$tools/bin/qemu-x86_64" ] || emulator=$tools/bin/qemu-x86_64
 

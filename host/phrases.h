@@ -1,0 +1,34 @@
+/*
+ * Words for what stands in a trace: names, and phrases without a line end.
+ * They are made of this file's own letters and of numbers, whatever the bytes
+ * of the trace are, and never of `<`, `>`, `&` or a quote.
+ */
+#ifndef PHRASES_H
+#define PHRASES_H
+
+#include <stdint.h>
+#include <stdio.h>
+
+/* NULL for a number that is no mode's, no event's. */
+const char *mode_name(uint32_t mode);
+const char *event_name(uint32_t code);
+
+/* The register at a place of the block. */
+const char *register_name(uint32_t place);
+
+/* A part of a Step: enum pomurica_part, but not POMURICA_PART_NONE. */
+const char *part_name(uint32_t part);
+
+/* The verdict, from the first three words of a report or an explanation: "accepted, 9 Steps". */
+void tell_verdict(FILE *out, const uint8_t *report);
+
+/* The event of a Step: "interrupt check, lines IRQ". */
+void tell_event(FILE *out, const uint8_t *step);
+
+/* The state of a block: "Non-secure Supervisor, masked I". */
+void tell_state(FILE *out, const uint8_t *block);
+
+/* What an answer says came of an event: "enters IRQ mode at 0x18". */
+void tell_outcome(FILE *out, uint32_t code, uint32_t number, uint32_t value);
+
+#endif

@@ -1,0 +1,81 @@
+/*
+ * The records of a trace where they lie, for those who find words and pictures
+ * for them.  Nothing here looks for the end of the bytes: a record is asked for
+ * only where the checker has found it whole.
+ */
+#ifndef RECORD_H
+#define RECORD_H
+
+#include "pomurica.h"
+
+#include <stdint.h>
+#include <string.h>
+
+/* Where the words of a record lie, counted in words from its head. */
+enum {
+    RECORD_HEAD = 0,
+    RECORD_COUNT = 1, /* of a Start or an End */
+    STEP_CODE = 1, STEP_A = 2, STEP_B = 3, STEP_NUMBER = 4, STEP_VALUE = 5, STEP_BLOCK = 6
+};
+
+/* The kinds of a record. */
+enum {
+    START_KIND = 1, STEP_KIND = 2, END_KIND = 3
+};
+
+/* Where the words of an explanation lie. */
+enum {
+    TOLD_NUMBER, TOLD_PLACE, TOLD_STEPS, TOLD_PART, TOLD_FOUND, TOLD_DUE
+};
+
+/* Bits of CPSR and SCR that say in which state a core is. */
+enum {
+    CPSR_F = 1 << 6, CPSR_I = 1 << 7, CPSR_A = 1 << 8, CPSR_MODE = 0x1F, SCR_NS = 1
+};
+
+/* The first byte of a Step; they are counted from 0 here, and from 1 where a person reads it. */
+static inline uint32_t step_place(uint32_t index)
+{
+    return POMURICA_START_SIZE + index * POMURICA_STEP_SIZE;
+}
+
+/* The block before a Step stands right before it, in a Start and in a Step. */
+static inline const uint8_t *block_before(const uint8_t *step)
+{
+    return step - POMURICA_BLOCK_SIZE;
+}
+
+static inline const uint8_t *block_after(const uint8_t *step)
+{
+    return step + 4 * STEP_BLOCK;
+}
+
+/* What came of an event. */
+enum outcome {
+    OUTCOME_REFUSED, OUTCOME_READ, OUTCOME_WRITTEN, OUTCOME_NOTHING_TAKEN, OUTCOME_ENTRY
+};
+
+static inline enum outcome outcome_of(uint32_t code, uint32_t number, uint32_t value)
+{
+    if (number != POMURICA_DONE)
+        return OUTCOME_REFUSED;
+    if (code == POMURICA_EVENT_BANKED_READ)
+        return OUTCOME_READ;
+    if (code == POMURICA_EVENT_BANKED_WRITE || code == POMURICA_EVENT_NOTE)
+        return OUTCOME_WRITTEN;
+    return code == POMURICA_EVENT_INTERRUPT_CHECK && value == 0 ? OUTCOME_NOTHING_TAKEN : OUTCOME_ENTRY;
+}
+
+/* What the rules give on the event of a Step from the block before it. */
+struct due {
+    uint8_t block[POMURICA_BLOCK_SIZE], answer[POMURICA_ANSWER_SIZE];
+};
+
+static inline void find_due(const uint8_t *step, struct due *due)
+{
+    memcpy(due->block, block_before(step), sizeof due->block);
+    pomurica_step(due->block, sizeof due->block, pomurica_get_word(step, STEP_CODE), pomurica_get_word(step, STEP_A),
+                  pomurica_get_word(step, STEP_B), due->answer, sizeof due->answer);
+}
+
+#endif
