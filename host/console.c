@@ -4,6 +4,7 @@
  */
 #define _POSIX_C_SOURCE 200809L
 
+#include "page.h"
 #include "phrases.h"
 #include "pomurica.h"
 #include "tell.h"
@@ -38,6 +39,7 @@ enum status {
 
 static const char USAGE[] =
     "usage: console [--quiet] [--explain] [--trace] [--] FILE...\n"
+    "       console --html [--] FILE > PAGE\n"
     "       console --help\n";
 
 static const char HELP[] =
@@ -50,6 +52,8 @@ static const char HELP[] =
     "  -         standard input\n"
     "  --explain under a refused trace, say what was due and what was there\n"
     "  --trace   under each, list its Steps up to the first wrong one\n"
+    "  --html    in place of lines, write a page for a browser: the verdict, the modes\n"
+    "            by Step and what each Step changed; of one FILE, with no other option\n"
     "  --quiet   print no line, only set the exit status; what goes wrong is still told\n"
     "  --help    print this\n"
     "  --        end of the options: what follows are files\n"
@@ -59,7 +63,7 @@ static const char HELP[] =
 
 /* What the arguments ask for. */
 struct wish {
-    bool quiet, explain, trace, help;
+    bool quiet, explain, trace, html, help;
     char **files; /* the arguments that are files, in order */
     size_t file_count;
 };
@@ -93,6 +97,8 @@ static bool parse(int argc, char **argv, struct wish *wish)
             wish->explain = true;
         } else if (strcmp(argv[i], "--trace") == 0) {
             wish->trace = true;
+        } else if (strcmp(argv[i], "--html") == 0) {
+            wish->html = true;
         } else if (strcmp(argv[i], "--help") == 0) {
             wish->help = true;
         } else {
@@ -101,6 +107,20 @@ static bool parse(int argc, char **argv, struct wish *wish)
         }
     }
     return true;
+}
+
+/* Whether there is something to do, and it can be done at once; says why not. */
+static bool is_possible(const struct wish *wish)
+{
+    if (wish->help)
+        return true;
+    if (wish->html && wish->file_count > 1)
+        fprintf(stderr, "console: --html takes one file: a page is about one trace\n");
+    else if (wish->html && (wish->quiet || wish->explain || wish->trace))
+        fprintf(stderr, "console: --html takes no other option: the page has the verdict, the reason and the Steps\n");
+    else
+        return wish->file_count > 0;
+    return false;
 }
 
 static int64_t now(void)
@@ -189,7 +209,7 @@ static int read_file(const char *name, uint8_t *bytes, size_t *length)
 /* Sends what was printed on its way.  A verdict that nobody gets must not look like one: the program ends. */
 static void send_output(void)
 {
-    if (fflush(stdout) == 0)
+    if (fflush(stdout) == 0 && !ferror(stdout))
         return;
     fprintf(stderr, "console: standard output: %s\n", strerror(errno));
     exit(TROUBLE);
@@ -208,7 +228,10 @@ static void print_verdict(const char *name, const uint8_t *report)
 static void print_file(const char *name, const uint8_t *bytes, size_t length, const struct wish *wish,
                        const uint8_t *explanation)
 {
-    print_verdict(name, explanation);
+    if (wish->html)
+        write_page(stdout, name, bytes, length, explanation);
+    else
+        print_verdict(name, explanation);
     if (wish->trace)
         tell_steps(stdout, bytes, explanation);
     if (wish->explain)
@@ -259,7 +282,7 @@ int main(int argc, char **argv)
     struct wish wish;
     uint8_t *bytes;
 
-    if (!parse(argc, argv, &wish) || (!wish.help && wish.file_count == 0)) {
+    if (!parse(argc, argv, &wish) || !is_possible(&wish)) {
         fputs(USAGE, stderr);
         return TROUBLE;
     }

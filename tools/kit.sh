@@ -11,7 +11,7 @@ archive=$root/target/staticlib/libconsole.a
 built=$root/target/host
 
 # The console program, which both ./console and ./test build.
-console_sources='host/console.c host/tell.c host/phrases.c'
+console_sources='host/console.c host/tell.c host/page.c host/timeline.c host/listing.c host/phrases.c'
 
 emulator=
 [ ! -x "$tools/bin/qemu-x86_64" ] || emulator=$tools/bin/qemu-x86_64

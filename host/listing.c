@@ -1,0 +1,158 @@
+/* The Steps of a trace, each opening to its changed words: see shown.h. */
+#include "shown.h"
+
+#include "phrases.h"
+#include "pomurica.h"
+#include "record.h"
+
+#include <inttypes.h>
+
+static void put_word(FILE *out, uint32_t word)
+{
+    fprintf(out, "<td>0x%08" PRIX32 "</td>", word);
+}
+
+/* The words that a Step changed, as its record has them. */
+static void list_changes(FILE *out, const uint8_t *step)
+{
+    uint32_t changes = 0;
+
+    for (uint32_t place = 0; place < POMURICA_PLACES; place++) {
+        const uint32_t before = pomurica_get_word(block_before(step), place);
+        const uint32_t after = pomurica_get_word(block_after(step), place);
+
+        if (before == after)
+            continue;
+        if (changes++ == 0)
+            fputs("<table><tr><th>word</th><th>before</th><th>after</th></tr>\n", out);
+        fprintf(out, "<tr><th>%s</th>", register_name(place));
+        put_word(out, before);
+        put_word(out, after);
+        fputs("</tr>\n", out);
+    }
+    fputs(changes == 0 ? "<p>No word changed.</p>" : "</table>", out);
+}
+
+/* One word of a wrong Step: what was due, what was found, and before them what stood there. */
+static void list_due(FILE *out, uint32_t part, const char *before, uint32_t due, uint32_t found)
+{
+    fprintf(out, "<tr%s><th>%s</th><td>%s</td>", due == found ? "" : " class=\"differs\"", part_name(part), before);
+    put_word(out, due);
+    put_word(out, found);
+    fprintf(out, "<td>%s</td></tr>\n", due == found ? "" : "differs");
+}
+
+/* The words of a wrong Step: its answer, and each place that was to change or did. */
+static void list_dues(FILE *out, const uint8_t *step, const struct due *due)
+{
+    char text[sizeof "0x00000000"];
+
+    fputs("<table><tr><th>word</th><th>before</th><th>due</th><th>found</th><td></td></tr>\n", out);
+    for (uint32_t i = 0; i < POMURICA_ANSWER_SIZE / 4; i++)
+        list_due(out, POMURICA_PART_NUMBER + i, "", pomurica_get_word(due->answer, i),
+                 pomurica_get_word(step, STEP_NUMBER + i));
+    for (uint32_t place = 0; place < POMURICA_PLACES; place++) {
+        const uint32_t before = pomurica_get_word(block_before(step), place);
+        const uint32_t given = pomurica_get_word(due->block, place);
+        const uint32_t found = pomurica_get_word(block_after(step), place);
+
+        if (before == given && before == found)
+            continue;
+        snprintf(text, sizeof text, "0x%08" PRIX32, before);
+        list_due(out, POMURICA_PART_BLOCK + place, text, given, found);
+    }
+    fputs("</table>", out);
+}
+
+/* What a Step's line begins with: its number and place, its event, and the state that it met. */
+static void begin_line(FILE *out, const uint8_t *step, uint32_t index)
+{
+    fprintf(out, "<summary><span>%" PRIu32 "</span><span>%" PRIu32 "</span><span>", index + 1, step_place(index));
+    tell_event(out, step);
+    fputs("</span><span>", out);
+    tell_state(out, block_before(step));
+    fputs("</span>", out);
+}
+
+static void list_wrong_step(FILE *out, const uint8_t *step, uint32_t index)
+{
+    struct due due;
+
+    find_due(step, &due);
+    fprintf(out, "<details id=\"s%" PRIu32 "\" class=\"wrong\" open>", index + 1);
+    begin_line(out, step, index);
+    fputs("<span><b>WRONG</b>; the rules give: ", out);
+    tell_outcome(out, pomurica_get_word(step, STEP_CODE), pomurica_get_word(due.answer, 0),
+                 pomurica_get_word(due.answer, 1));
+    fputs("</span></summary>", out);
+    list_dues(out, step, &due);
+    fputs("</details>\n", out);
+}
+
+/* The style of an outcome; the mark in front of it comes with the style. */
+static const char *outcome_style(enum outcome outcome)
+{
+    if (outcome == OUTCOME_ENTRY)
+        return " class=\"entry\"";
+    return outcome == OUTCOME_REFUSED ? " class=\"refusal\"" : "";
+}
+
+/* A Step as its record has it: a right one has what the rules give. */
+static void list_step(FILE *out, const uint8_t *step, uint32_t index, bool judged)
+{
+    const uint32_t code = pomurica_get_word(step, STEP_CODE);
+    const uint32_t number = pomurica_get_word(step, STEP_NUMBER), value = pomurica_get_word(step, STEP_VALUE);
+
+    fprintf(out, "<details id=\"s%" PRIu32 "\"%s>", index + 1, judged ? "" : " class=\"pale\"");
+    begin_line(out, step, index);
+    fprintf(out, "<span%s>", outcome_style(outcome_of(code, number, value)));
+    tell_outcome(out, code, number, value);
+    fputs("</span></summary>", out);
+    list_changes(out, step);
+    fputs("</details>\n", out);
+}
+
+/* Says which Steps are not listed, if any. */
+static void tell_left_out(FILE *out, uint32_t first, uint32_t last)
+{
+    if (first == last)
+        return;
+    fputs(last - first == 1 ? "<p class=\"left-out\">Step " : "<p class=\"left-out\">Steps ", out);
+    put_count(out, first + 1);
+    if (last - first > 1) {
+        fputs(" to ", out);
+        put_count(out, last);
+    }
+    fputs(last - first == 1 ? " is not listed.</p>\n" : " are not listed.</p>\n", out);
+}
+
+static void list_all(FILE *out, const struct shown *shown)
+{
+    fputs("<div class=\"head\"><span>Step</span><span>at byte</span><span>event</span><span>it was in</span>"
+          "<span>outcome</span></div>\n", out);
+    for (uint32_t index = shown->first; index < shown->last; index++) {
+        const uint8_t *const step = shown->trace + step_place(index);
+
+        if (index > 0 && is_wrong(shown, index - 1))
+            fputs("<p class=\"left-out\">Behind the wrong Step nothing was judged. "
+                  "What follows is as it was recorded.</p>\n", out);
+        if (is_wrong(shown, index))
+            list_wrong_step(out, step, index);
+        else
+            list_step(out, step, index, index < shown->judged);
+    }
+}
+
+void list_steps(FILE *out, const struct shown *shown)
+{
+    fputs("<section class=\"steps\">\n<h2>Steps</h2>\n", out);
+    if (shown->recorded == 0)
+        fputs("<p>There is no Step to list.</p>\n", out);
+    else
+        fputs("<p>A Step opens to the words that it changed.</p>\n", out);
+    tell_left_out(out, 0, shown->first);
+    if (shown->first < shown->last)
+        list_all(out, shown);
+    tell_left_out(out, shown->last, shown->recorded);
+    fputs("</section>\n", out);
+}
