@@ -7,12 +7,17 @@ the program is neither emulated nor sanitized, so that its memory can be limited
 import os
 import pty
 import resource
+import struct
 import subprocess
 import sys
 import tempfile
 
+sys.dont_write_bytecode = True
+from page import Page  # noqa: E402
+
 SHORTEST = b'\xb8\0\1\0' + bytes(180) + b'\x08\0\3\0' + bytes(4)
 USAGE = b'usage: console'
+SAMPLES = os.path.join(os.path.dirname(os.path.dirname(os.path.abspath(__file__))), 'samples')
 
 plain = sys.argv[1] == '--plain'
 if plain:
@@ -159,6 +164,135 @@ def try_folder():
     expect('each refusal is explained', all(told[i] for i, line in enumerate(verdicts.splitlines()) if b': refused' in line))
 
 
+def compare_telling(page, lines):
+    """What the page says of Steps against the lines of --explain and --trace."""
+    listed = list(page.told_steps())
+    first = int(page.steps[0][1][0]) - 1 if page.steps else 0
+    told, differences = lines[first:first + len(listed)], [line for line in lines if line.startswith('    ')]
+    marks = {'entry': sum(': enters' in line or '; enters' in line for line in told if not line.endswith('WRONG')),
+             'refusal': sum('; refused' in line for line in told if not line.endswith('WRONG'))}
+    if listed != told or list(page.told_differences()) != differences:
+        page.fault(('Steps', listed, told, differences))
+    drawn = list(page.drawn_lanes())
+    if 'A column is one Step' in page.text and (page.marks != marks or drawn != list(page.listed_lanes())):
+        page.fault(('timeline', page.marks, marks, drawn))
+
+
+def page_of(name, shown=None, **options):
+    """The page of a file, with its faults: it has to say what the console says in lines, and nothing else."""
+    shown = name if shown is None else shown
+    status, out, err = run('--html', name, **options)
+    line_status, lines, _ = run('--explain', '--trace', name, **options)
+    line, *lines = lines.decode(errors='replace').rstrip('\n').split('\n')
+    page = Page(out)
+    verdict = line.rsplit(': ', 1)[1]
+    if (status, err, page.verdict) != (line_status, b'', f'{shown}: {verdict}'):
+        page.fault((status, err, page.verdict))
+    compare_telling(page, lines)
+    page.faults += sorted(page.strange_words(shown))
+    if page.steps:
+        with open(name, 'rb') as file:
+            page.faults += page.wrong_changes(file.read())
+    return page
+
+
+def expect_pages(name, files):
+    pages = {file: page_of(file) for file in files}
+    faults = [(file, page.faults[:3]) for file, page in pages.items() if page.faults]
+    expect(f'{name}: {len(files)} pages', not faults, faults[:3])
+
+
+def expect_page(name, page, *texts, **numbers):
+    """A page without fault, that has the texts and, of each kind of number, this one."""
+    seen = {'steps': len(page.steps), 'wrong': [cells[0] for style, cells, _ in page.steps if style == 'wrong']}
+    missing = [text for text in texts if text not in page.text]
+    expect(name, not page.faults and not missing and {**seen, **numbers} == seen, (page.faults[:3], missing, seen))
+
+
+def note(block, place, word):
+    """The Step of a note that is done, and the block that it leaves."""
+    after = block[:4 * place] + word + block[4 * place + 4:]
+    return struct.pack('<HHIIIII', 200, 2, 12, place, int.from_bytes(word, 'little'), 0, 0) + after, after
+
+
+def long_trace(count, wrong=None):
+    """An honest trace: a sample's Steps and notes that bring its start block back, over and over; or one Step wrong."""
+    with open(os.path.join(SAMPLES, 'honest.trace'), 'rb') as file:
+        sample = file.read()
+    start, round_trip, block = sample[8:184], sample[184:-8], sample[-184:-8]
+    for place in [33, *range(33), *range(34, 44)]:  # CPSR first: User may have any other word
+        step, block = note(block, place, start[4 * place:4 * place + 4])
+        round_trip += step
+    steps = bytearray((round_trip * (200 * count // len(round_trip) + 1))[:200 * count])
+    if wrong:
+        steps[200 * wrong - 1] ^= 1  # of MVBAR, its last word
+    return struct.pack('<HHI', 184, 1, count) + start + bytes(steps) + struct.pack('<HHI', 8, 3, count)
+
+
+def try_pages():
+    names = sorted(os.listdir(FOLDER))
+    expect_pages('samples', [os.path.join(SAMPLES, name) for name in os.listdir(SAMPLES) if name.endswith('.trace')])
+    expect_pages('honest and damaged', [os.path.join(FOLDER, name) for name in names[::20]])
+    expect_page('the page of an empty file', page_of('empty'), 'only 0 are there', 'There is no Step to list.', steps=0)
+    expect_page('the page of standard input', page_of('-', stdin=None, input=SHORTEST), steps=0)
+    write('text', b'"><script>alert(1)</script>&lt;' * 400)
+    expect_page('the page of a text', page_of('text'), 'the Start was due', steps=0)
+
+
+def try_unjudged():
+    """Steps behind a wrong one are shown as far as they go."""
+    step = b'\xc8\0\2\0' + (b'"><script>&' * 20)[:196]
+    start = (b'</pre><b>' * 20)[:176]
+    write('text', struct.pack('<HHI', 184, 1, 9) + start + 4 * step + 200 * b'<')
+    expect_page('text in the form of a trace', page_of('text'), steps=4, wrong=['1'])
+    write('text', struct.pack('<HHI', 184, 1, 9) + start + 4 * step + step[:-1])
+    expect_page('the same, cut', page_of('text'), steps=4, wrong=['1'])
+    write('text', struct.pack('<HHI', 184, 1, 3) + start + 4 * step)
+    expect_page('the same, with more Steps than it counts', page_of('text'), steps=3, wrong=['1'])
+
+
+def try_long_pages():
+    write('long', long_trace(1000))
+    expect_page('a page of 1,000 Steps', page_of('long'), steps=1000)
+    write('long', long_trace(1000, 613))
+    expect_page('a page of 1,000 Steps with a wrong one', page_of('long'), 'Step 613 WRONG', steps=1000, wrong=['613'])
+    write('long', long_trace(2001))
+    expect_page('a page of 2,001 Steps', page_of('long'), 'Step 1 is not listed.', 'A column is 2 Steps.', steps=2000)
+    write('long', long_trace(65535))
+    longest = page_of('long')
+    expect_page('a page of 65,535 Steps', longest, 'Steps 1 to 63,535 are not listed.', 'A column is 10 Steps.',
+                '65,000', steps=2000)
+    expect('and its size', longest.size < 4 << 20, longest.size)
+    write('long', long_trace(65535, 40000))
+    expect_page('a page of 65,535 Steps with a wrong one', page_of('long'), 'Steps 1 to 39,000 are not listed.',
+                'Steps 41,001 to 65,535 are not listed.', 'Step 40,000 WRONG', steps=2000, wrong=['40000'])
+    write('long', long_trace(65535)[:-1])
+    expect_page('a page of 65,535 Steps, cut', page_of('long'), 'stops here: 8 SHORT at byte 13107184')
+
+
+def try_page_names():
+    os.mkdir('<')
+    names = {b'<script>alert(1)<script>': '<script>alert(1)<script>', b'</title><h1>forged': '</title><h1>forged',
+             b'"a" \'b\' &amp; &#60;': '"a" \'b\' &amp; &#60;', b'line\nend\x7f\x1b[31m': 'line?end??[31m',
+             b'\xff\xc3(\xe2\x82 \xed\xa0\x80 \xc2\x85 \xc0\xbc': '??(?? ??? ?? ??',
+             '\u010derna \u20ac \U0001f600'.encode(): '\u010derna \u20ac \U0001f600', b'\xf0\x9f\x98': '???'}
+    for name, shown in names.items():
+        page = page_of(write(name, SHORTEST), shown)
+        expect_page(f'the page of a file named {name!r}', page, steps=0)
+
+
+def try_page_usage():
+    expect_run('--html of two files', ['--html', 'good', 'cut'], 2, b'', b'--html takes one file: ')
+    for option in ['--quiet', '--explain', '--trace']:
+        expect_run(f'--html with {option}', [option, '--html', 'good'], 2, b'', b'--html takes no other option: ')
+    expect_run('--html and no file', ['--html'], 2, b'', USAGE)
+    expect_run('--html of a directory', ['--html', '.'], 2, b'', b'console: .: Is a directory\n')
+    expect_run('--html of a file that is not there', ['--html', 'missing'], 2, b'', b'console: missing: No such file')
+    with open('/dev/full', 'wb') as full:
+        expect_run('a page that cannot be written', ['--html', 'long'], 2, None,
+                   b'console: standard output: No space left', stdout=full)
+
+
 FOLDER, LINES = os.path.abspath(FOLDER), os.path.abspath(LINES)
 with tempfile.TemporaryDirectory() as room:
     os.chdir(room)
@@ -170,6 +304,11 @@ with tempfile.TemporaryDirectory() as room:
     if plain:
         try_memory()
     try_folder()
+    try_pages()
+    try_unjudged()
+    try_long_pages()
+    try_page_names()
+    try_page_usage()
     os.chdir('/')
 print(f'{results.count(True)} passed, {results.count(False)} failed')
 sys.exit(0 if all(results) else 1)

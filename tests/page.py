@@ -1,0 +1,178 @@
+"""What a page of `console --html` says, and what is wrong with it as a page, read by the standard library's parser."""
+import html.parser
+import os
+import re
+import struct
+
+HOST = os.path.join(os.path.dirname(os.path.dirname(os.path.abspath(__file__))), 'host')
+
+# The only elements that a page is made of, and their attributes.
+ELEMENTS = set('html head meta title style body header h1 h2 bdi pre p a section ul li div svg path rect text '
+               'details summary span b table tr th td'.split())
+ATTRIBUTES = set('lang charset http-equiv content name class id href tabindex role aria-label aria-hidden viewbox '
+                 'd x y width height open'.split())
+EMPTY = {'meta'}
+LANES = {'monitor', 'hyp', 'guest', 'secure', 'none'}
+REGISTERS = ('R8_usr R9_usr R10_usr R11_usr R12_usr SP_usr LR_usr R8_fiq R9_fiq R10_fiq R11_fiq R12_fiq SP_fiq LR_fiq '
+             'LR_irq SP_irq LR_svc SP_svc LR_abt SP_abt LR_und SP_und LR_mon SP_mon ELR_hyp SP_hyp SPSR_fiq SPSR_irq '
+             'SPSR_svc SPSR_abt SPSR_und SPSR_mon SPSR_hyp CPSR PC SCR HCR SCTLR_s SCTLR_ns HSCTLR VBAR_s VBAR_ns '
+             'HVBAR MVBAR').split()
+POLICY = "default-src 'none'; style-src 'unsafe-inline'"
+
+
+def own_words():
+    """Every word of the console's sources: a page says nothing else but these and numbers."""
+    sources = ''
+    for name in os.listdir(HOST):
+        with open(os.path.join(HOST, name), encoding='utf-8') as file:
+            sources += file.read()
+    return set(re.findall(r'[A-Za-z]\w*', sources))
+
+
+OWN_WORDS = own_words()
+
+
+def changed_words(trace, place):
+    """The rows that the page has to have for the Step at a place that is not wrong."""
+    before, after = (struct.unpack_from('<44I', trace, at) for at in (place - 176, place + 24))
+    changed = zip(REGISTERS, before, after)
+    return [[name, f'0x{old:08X}', f'0x{new:08X}'] for name, old, new in changed if old != new]
+
+
+class Page(html.parser.HTMLParser):
+    """A page: its faults, its verdict, its text, its marks, and the Steps that it lists."""
+
+    def __init__(self, content):
+        super().__init__()
+        self.faults, self.open, self.ids, self.links = [], [], [], []
+        self.verdict, self.style, self.policy = '', '', ''
+        self.pieces = []  # of the text
+        self.marks = {'entry': 0, 'refusal': 0}
+        self.bars, self.columns = [[]], []  # of each picture: where bars begin and end, with their styles; of each Step
+        self.steps = []  # of each: its style, the texts of its line, and its rows of words
+        self.size = len(content)
+        try:
+            self.feed(content.decode())
+        except UnicodeDecodeError as error:
+            self.fault(error)
+        self.close()
+        self.text = ''.join(self.pieces)
+        self.judge(content)
+
+    def fault(self, what):
+        self.faults.append(str(what))
+
+    def judge(self, content):
+        if re.search(rb'[^\n -~\x80-\xff]', content):
+            self.fault('a control character')
+        if not content.startswith(b'<!doctype html>\n') or not content.endswith(b'</html>\n'):
+            self.fault('not a whole page')
+        if self.open or self.policy != POLICY or 'url(' in self.style or '@import' in self.style:
+            self.fault((self.open, self.policy, 'or a style that asks for a file'))
+        if len(set(self.ids)) != len(self.ids) or not set(self.links) <= {'#' + name for name in self.ids}:
+            self.fault('an id twice, or a link to nowhere')
+
+    def handle_starttag(self, tag, attrs):
+        self.handle_startendtag(tag, attrs)
+        if tag not in EMPTY:
+            self.open.append(tag)
+
+    def handle_startendtag(self, tag, attrs):
+        given = dict(attrs)
+        self.pieces.append(' ')
+        if tag not in ELEMENTS or not set(given) <= ATTRIBUTES:
+            self.fault((tag, attrs))
+        if not re.fullmatch(r'[Mhvlmz0-9 -]*', given.get('d', '')):
+            self.fault(given['d'])
+        self.ids += [given['id']] if 'id' in given else []
+        self.links += [given['href']] if 'href' in given else []
+        if 'http-equiv' in given:
+            self.policy = given['content']
+        self.begin(tag, given.get('class', ''))
+        if 'div' in self.open:
+            self.draw(tag, given)
+
+    def draw(self, tag, given):
+        """A part of the timeline."""
+        style = given.get('class', '')
+        if tag == 'svg':
+            self.bars.append([])
+        elif tag == 'path' and style in self.marks:
+            self.marks[style] += given['d'].count('M')
+        elif tag == 'path' and style.split()[0] in LANES:
+            bars = re.findall(r'M(\d+) \d+h(\d+)', given['d'])
+            self.bars[-1] += [(int(x), int(x) + int(width), style) for x, width in bars]
+        elif tag == 'rect' and style == 'link':
+            self.columns.append((len(self.bars) - 1, int(given['x'])))
+
+    def begin(self, tag, style):
+        """Room for the texts of a Step."""
+        if tag == 'details':
+            self.steps.append((style, [], []))
+        elif tag == 'span' and 'summary' in self.open:
+            self.steps[-1][1].append('')
+        elif tag == 'tr':
+            self.steps[-1][2].append([])
+        elif tag in ('th', 'td'):
+            self.steps[-1][2][-1].append('')
+
+    def handle_endtag(self, tag):
+        if not self.open or self.open.pop() != tag:
+            self.fault(f'</{tag}> in {self.open}')
+
+    def handle_data(self, data):
+        if 'style' in self.open:
+            self.style += data
+            return
+        self.pieces.append(data)
+        if 'h1' in self.open:
+            self.verdict += data
+        elif 'summary' in self.open:
+            self.steps[-1][1][-1] += data
+        elif 'table' in self.open and data.strip():
+            self.steps[-1][2][-1][-1] += data
+
+    def handle_comment(self, data):
+        self.fault(f'a comment: {data}')
+
+    def strange_words(self, name):
+        """What the page says that is neither a number, nor a word of the console's, nor the file's name."""
+        text = re.sub(r'0x[0-9A-F]+', ' ', self.text.replace(name, ' '))
+        return set(re.findall(r'[^\W\d]\w*', text)) - OWN_WORDS
+
+    def drawn_lanes(self):
+        """The lane of each Step that has a column of its own, by the style of the bars that stand there."""
+        for row, x in self.columns:
+            yield ' '.join(style for first, last, style in self.bars[row] if first <= x < last)
+
+    def listed_lanes(self):
+        """The same of each Step that is listed, by the state that it was in."""
+        for style, (_, _, _, state, _), _ in self.steps:
+            mode, pale = state.split(',')[0], ' pale' if style == 'pale' else ''
+            if mode.startswith('Monitor') or mode.endswith('Hyp'):
+                yield ('monitor' if mode.startswith('Monitor') else 'hyp') + pale
+            elif mode.startswith('mode 0x'):
+                yield 'none' + pale
+            else:
+                yield ('guest' if mode.startswith('Non-secure') else 'secure') + pale
+
+    def told_steps(self):
+        """The Steps that were judged, as `console --trace` tells them."""
+        for style, (number, place, event, state, outcome), _ in self.steps:
+            if style != 'pale':
+                wrong = outcome.startswith('WRONG; the rules give: ')
+                outcome = outcome.split(': ', 1)[1] + ': WRONG' if wrong else outcome
+                yield f'  Step {number} at byte {place}: {event}; {state}; {outcome}'
+
+    def wrong_changes(self, trace):
+        """The Steps that do not open to the words that they changed."""
+        for style, (number, place, *_), rows in self.steps:
+            if style != 'wrong' and rows[1:] != changed_words(trace, int(place)):
+                yield number
+
+    def told_differences(self):
+        """The words of the wrong Step that differ, as `console --explain` tells them."""
+        for style, _, rows in self.steps:
+            for row in rows:
+                if style == 'wrong' and row[-1] == 'differs':
+                    yield f'    {row[0]} {row[2]} due, {row[3]} found'
