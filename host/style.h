@@ -17,7 +17,7 @@ static const char STYLE[] =
     "header.refused { border-color: var(--wrong); background: #fff1f0; }\n"
     "header.accepted h1::before { content: \"\\2714\\A0\"; color: #1a7f37; }\n"
     "header.refused h1::before { content: \"\\2718\\A0\"; color: var(--wrong); }\n"
-    "header pre { margin: 0.5rem 0; overflow-x: auto; font: 0.9rem/1.45 ui-monospace, monospace; }\n"
+    "header pre { max-height: 14rem; margin: 0.5rem 0; overflow: auto; font: 0.9rem/1.45 ui-monospace, monospace; }\n"
 
     ".legend { display: flex; flex-wrap: wrap; gap: 0.25rem 1.5rem; margin: 0.25rem 0 0.5rem; padding: 0;"
     " list-style: none; }\n"
@@ -85,6 +85,7 @@ static const char STYLE[] =
     " print-color-adjust: exact; -webkit-print-color-adjust: exact; }\n"
     "h1 { font-size: 13pt; }\n"
     "header pre, table { font-size: 8.5pt; }\n"
+    "header pre { max-height: none; }\n"
     ".head, summary { grid-template-columns: 3.2rem 3.6rem 1.1fr 1.1fr 1fr; gap: 0 0.5rem; font-size: 8pt; }\n"
     ".head { position: static; }\n"
     ".rows { overflow: visible; }\n"
