@@ -244,7 +244,7 @@ static enum status judge_file(const char *name, uint8_t *bytes, const struct wis
                               struct progress *progress)
 {
     uint8_t explanation[POMURICA_EXPLANATION_SIZE];
-    size_t length;
+    size_t length = 0;
     const int reason = read_file(name, bytes, &length);
 
     if (reason != 0) {
