@@ -6,12 +6,11 @@ use Prim.Native.Nat.{ℕ, _*_, _^_, _<_}
 use native.Mathlib.Nat.{one-mul, zero-mul}
 use lib.Dec.{eqb, ltb}
 use borrow.Author.Tests.{eqb-true, ltb-true}
-use Rattle.state.specs.Choice.{if_then_else_, _is_, _among_, firstOf}
-use Rattle.state.specs.Field.{bits, flag, mode-field, SCR-NS, HCR-TGE}
-use Rattle.state.specs.Mode.{MONITOR, HYP, USER, known, el1, targets, isTarget, spsrPlace, lrPlace}
+use Rattle.state.specs.Choice.{if_then_else_, _is_, _among_}
+use Rattle.state.specs.Field.{flag, mode-field, SCR-NS}
+use Rattle.state.specs.Mode.{MONITOR, USER, el1, targets, isTarget, spsrPlace, lrPlace}
 use Rattle.state.specs.Place.{PLACES}
-use Rattle.state.specs.Number.{DONE, BAD-MODE, BAD-STATE}
-use Rattle.state.specs.State.{secure, nsEl1, nsUser, good, faultOf}
+use Rattle.state.specs.State.{secure, nsEl1, nsUser}
 use Rattle.state.proofs.Test.{at-one}
 
 -- what holds of no Monitor: with NS set, not Secure is nothing more to ask
@@ -34,66 +33,6 @@ ns-el1 cpsr scr =
 pub ns-user : (cpsr scr : ℕ) → nsUser cpsr scr ≡ (SCR-NS scr && mode-field cpsr is USER)
 ns-user cpsr scr =
     apart (SCR-NS scr) (mode-field cpsr is MONITOR) (mode-field cpsr is USER) (monitor-no-user (mode-field cpsr))
-
--- the rows of a fault, by the tests alone
-faultBy : Bool → Bool → Bool → Bool → Bool → ℕ
-faultBy kn clear ns held hyp =
-    if kn then
-    (if clear then
-    (if ns then (if held then BAD-STATE else DONE) else
-    (if hyp then BAD-STATE else DONE))
-    else BAD-STATE)
-    else BAD-MODE
-
-rows : (kn clear ns tge el hyp : Bool)
-    → firstOf
-    (record { applies = not kn; number = BAD-MODE }
-    ∷ record { applies = not (kn && (clear && (not (hyp && not ns) && not ((ns && el) && tge)))); number = BAD-STATE }
-    ∷ [])
-    DONE
-    ≡ faultBy kn clear ns (tge && el) hyp
-unfolding faultBy
-rows false clear ns tge el hyp = refl
-rows true false ns tge el hyp = refl
-rows true true true true true true = refl
-rows true true true true true false = refl
-rows true true true true false true = refl
-rows true true true true false false = refl
-rows true true true false true true = refl
-rows true true true false true false = refl
-rows true true true false false true = refl
-rows true true true false false false = refl
-rows true true false tge el true = refl
-rows true true false tge el false = refl
-
--- each way through the tests, as the code goes it
-module _ (cpsr scr hcr : ℕ) where
-  by-tests : faultOf cpsr scr hcr
-      ≡ faultBy (known (mode-field cpsr)) (bits 24 21 cpsr is 0) (SCR-NS scr) (HCR-TGE hcr && el1 (mode-field cpsr))
-      (mode-field cpsr is HYP)
-  unfolding faultOf good
-  by-tests =
-      rw (ns-el1 cpsr scr)
-      (rows (known (mode-field cpsr)) (bits 24 21 cpsr is 0) (SCR-NS scr) (HCR-TGE hcr) (el1 (mode-field cpsr))
-      (mode-field cpsr is HYP))
-
-  pub bad-mode : known (mode-field cpsr) ≡ false → BAD-MODE ≡ faultOf cpsr scr hcr
-  unfolding faultBy
-  bad-mode k = rw (by-tests, k)
-
-  pub not-clear : known (mode-field cpsr) ≡ true → (bits 24 21 cpsr is 0) ≡ false → BAD-STATE ≡ faultOf cpsr scr hcr
-  unfolding faultBy
-  not-clear k z = rw (by-tests, k, z)
-
-  pub in-ns : {held : Bool} → known (mode-field cpsr) ≡ true → (bits 24 21 cpsr is 0) ≡ true → SCR-NS scr ≡ true
-      → (HCR-TGE hcr && el1 (mode-field cpsr)) ≡ held → (if held then BAD-STATE else DONE) ≡ faultOf cpsr scr hcr
-  unfolding faultBy
-  in-ns k z n h = rw (by-tests, k, z, n, h)
-
-  pub in-secure : {hyp : Bool} → known (mode-field cpsr) ≡ true → (bits 24 21 cpsr is 0) ≡ true → SCR-NS scr ≡ false
-      → (mode-field cpsr is HYP) ≡ hyp → (if hyp then BAD-STATE else DONE) ≡ faultOf cpsr scr hcr
-  unfolding faultBy
-  in-secure k z n h = rw (by-tests, k, z, n, h)
 
 -- a mode that an exception can be taken to has a place for its saved state and one for its return address
 pub spsr-inside : (m : ℕ) → isTarget m ≡ true → spsrPlace m < PLACES

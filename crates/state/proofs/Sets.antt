@@ -3,17 +3,13 @@ use mathlib.Core.Path.{_≡_, refl}
 use mathlib.Core.Bool.{Bool, true, false}
 use mathlib.Core.List.{List, [], _∷_}
 use mathlib.Core.Logic.{_⊎_, inl, inr}
-use Prim.Native.Nat.{ℕ, _/_, _^_, _<_, _≤_}
+use Prim.Native.Nat.{ℕ, _<_, _≤_}
 use native.Mathlib.Omega.{arith}
-use lib.Bits.{bitAnd}
 use lib.Dec.{eqb, ltb}
 use borrow.Author.Tests.{eq-eqb, ne-eqb, ltb-true}
 use Rattle.state.specs.Choice.{if_then_else_, _is_, _among_}
+pub use Rattle.state.specs.Parts.{inSet}
 use Rattle.state.proofs.Test.{same, same-eq, anyBelow, at-below, anyOf, and-left, and-right}
-
--- bit n of the set
-abbrev pub inSet : ℕ → ℕ → Bool
-inSet set n = eqb (bitAnd (set / 2 ^ n) 1) 1
 
 pub in-set : (set : ℕ) (ms : List ℕ) → anyBelow 32 (λ n. same (inSet set n) (n among ms)) ≡ true → (n : ℕ) → n < 32
     → inSet set n ≡ (n among ms)

@@ -4,3 +4,4 @@ pub mod Mode
 pub mod Field
 pub mod Number
 pub mod State
+pub mod Parts

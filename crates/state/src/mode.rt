@@ -35,6 +35,15 @@ const GUEST_MODES: u32 = 0x888F_0000;
 
 const MODES: u32 = 0x8CCF_0000;
 
+const HYP_MODE: u32 = 0x0400_0000;
+
+// The modes that no good block is in: whatever it holds, with NS 1 and TGE 1, and with NS 0.
+pub const UNKNOWN: u32 = 0xFFFF_FFFF - MODES;
+
+pub const UNKNOWN_OR_EL1: u32 = UNKNOWN + EL1_MODES;
+
+pub const UNKNOWN_OR_HYP: u32 = UNKNOWN + HYP_MODE;
+
 impl Mode {
     pub const USER: Mode = Mode { number: USER };
 

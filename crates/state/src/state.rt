@@ -3,11 +3,13 @@
 ghost use mathlib.Core.Path.{_≡_};
 ghost use mathlib.Core.Bool.{_&&_, _||_};
 ghost use Rattle.state.specs.Choice.{_is_};
-ghost use Rattle.state.specs.Field.{mode-field};
+ghost use Rattle.state.specs.Field.{mode-field, SCR-NS, HCR-TGE};
 ghost use Rattle.state.specs.Mode.{USER, MONITOR, HYP, known, el1, guest};
+ghost use Rattle.state.specs.Parts.{BadModes, modeFault};
 ghost use Rattle.state.specs.State.{secure, nsEl1, nsUser, faultOf};
 use crate::field::hcr_tge;
 use crate::field::scr_ns;
+use crate::mode;
 use crate::mode::Mode;
 use crate::number;
 
@@ -81,23 +83,37 @@ pub fn is_ns_user(cpsr: u32, scr: u32) -> bool
     both(scr_ns(scr), is_user(cpsr))
 }
 
+// The modes in which no block with this SCR and HCR is good, as a set: one look at it stands for all tests of the mode.
+fn bad_modes(scr: u32, hcr: u32) -> u32
+    ensures { λ r. ⌜ BadModes (SCR-NS scr) (HCR-TGE hcr) r ⌝ }
+{
+    if scr_ns(scr) {
+        if hcr_tge(hcr) {
+            return mode::UNKNOWN_OR_EL1;
+        }
+        return mode::UNKNOWN;
+    }
+    mode::UNKNOWN_OR_HYP
+}
+
+// The answer to a block in one of them.
+fn mode_fault(cpsr: u32) -> u32
+    ensures { λ r. ⌜ r ≡ modeFault cpsr ⌝ }
+{
+    if is_known(cpsr) {
+        return number::BAD_STATE;
+    }
+    number::BAD_MODE
+}
+
 // BAD_MODE, BAD_STATE, or DONE where the three words are those of a good block.
 pub fn fault_of(cpsr: u32, scr: u32, hcr: u32) -> u32
     ensures { λ r. ⌜ r ≡ faultOf cpsr scr hcr ⌝ }
 {
-    if !is_known(cpsr) {
-        return number::BAD_MODE;
+    if bad_modes(scr, hcr) >> (cpsr % 32) & 1 == 1 {
+        return mode_fault(cpsr);
     }
     if cpsr / 0x20_0000 % 16 * 0x20_0000 != 0 {
-        return number::BAD_STATE;
-    }
-    if scr_ns(scr) {
-        if both(hcr_tge(hcr), is_el1(cpsr)) {
-            return number::BAD_STATE;
-        }
-        return number::DONE;
-    }
-    if is_hyp(cpsr) {
         return number::BAD_STATE;
     }
     number::DONE
