@@ -1,64 +1,37 @@
--- The flag is true just where the bytes passed agree, so at the end where all do.
-use mathlib.Core.Bool.{true}
+-- The front up to a multiple of 32 and the rest behind it are all of the two runs.
 use mathlib.Core.List.{List}
-use mathlib.Core.Logic.{_↔_}
-use mathlib.Core.Path.{_≡_, ap}
-use Prim.Native.Nat.{ℕ, _-_, _≤_}
+use mathlib.Core.Path.{ap}
+use Prim.Native.Nat.{ℕ}
 use borrow.Author.Needs.{needs}
 use lib.ListN.{length}
-use Rattle.words.proofs.Agree.{Agree, never, agree-none, agree-more, agree-all}
+use Rattle.words.proofs.Agree.{never, agree-not, agree-all}
 use Rattle.words.proofs.runs.same.Statement.{statement}
 use Rattle.words.proofs.runs.same.Tie as tie
 
-abbrev Inv-loop : tie.InvT-loop
-Inv-loop a b alike₀ i₀ alike i = (i ≤ length a) × ((alike ≡ true) ↔ Agree a b i)
-
-abbrev μ-loop : tie.MeasureT-loop
-μ-loop a b alike₀ i₀ alike i = length a - i
-
-returns : tie.Need-returns Inv-loop μ-loop
+returns : tie.Need-returns
 returns c = ((λ e. never e), (λ e. absurd (c .if1 .taken (ap (λ (l : List ℕ). length l) e))))
 
-loop-holds : tie.Need-loop-holds Inv-loop μ-loop
-loop-holds c = (search needs, agree-none (c .before .args .a .now) (c .before .args .b .now))
+mul-even : tie.Need-mul-even
+mul-even c = search needs
 
-shared-slice-read-alike : tie.Need-shared-slice-read-alike Inv-loop μ-loop
-shared-slice-read-alike c = search needs
+same-between-requires : tie.Need-same-between-requires
+same-between-requires c κs = search needs
 
-shared-slice-read-alike-2 : tie.Need-shared-slice-read-alike-2 Inv-loop μ-loop
-shared-slice-read-alike-2 c = search needs
-
-add-i : tie.Need-add-i Inv-loop μ-loop
-add-i c = search needs
-
-loop-less : tie.Need-loop-less Inv-loop μ-loop
-loop-less c = search needs
-
-loop-again : tie.Need-loop-again Inv-loop μ-loop
-loop-again c =
-    let a = c .before .before .before .before .before .args .a .now in
-    let b = c .before .before .before .before .before .args .b .now in
-    let loop = c .before .before .before .loop in
-    (search needs, agree-more a b (loop .alike) (loop .i) (loop .inv .1))
-
-returns-2 : tie.Need-returns-2 Inv-loop μ-loop
+returns-2 : tie.Need-returns-2
 returns-2 c =
-    let a = c .before .before .before .args .a .now in
-    let b = c .before .before .before .args .b .now in
-    let loop = c .before .loop in
-    agree-all a b (loop .alike) (loop .i) (c .before .before .if1 .left) (loop .inv .0) (c .loop-test .left) (loop .inv .1)
+    let args = c .before .before .before .before .before .args in
+    agree-not (args .a .now) (args .b .now) _ (c .before .same-between .ensures) (c .if2 .taken)
+
+same-between-requires-2 : tie.Need-same-between-requires-2
+same-between-requires-2 c κs = search needs
+
+returns-3 : tie.Need-returns-3
+returns-3 c =
+    let args = c .before .before .before .before .before .before .args in
+    agree-all (args .a .now) (args .b .now) _ (c .before .before .same-between .ensures)
+    (c .before .before .before .if1 .left) (c .before .if2 .left) (c .same-between2 .ensures)
 
 pub same-spec : {M : Type 1} → statement M
 same-spec =
     tie.close
-    (tie.spec
-    Inv-loop
-    μ-loop
-    returns
-    loop-holds
-    shared-slice-read-alike
-    shared-slice-read-alike-2
-    add-i
-    loop-less
-    loop-again
-    returns-2)
+    (tie.spec returns mul-even same-between-requires returns-2 same-between-requires-2 returns-3)
