@@ -1,7 +1,6 @@
 pub mod Differing
 pub mod Before
 pub mod Explaining
-pub mod SameWords
 pub mod Wrong
 pub mod Explains
 pub mod Theorems

@@ -9,6 +9,7 @@ use native.Mathlib.Omega.{arith}
 use lib.ListN.{length, take, drop, length-take, length-drop}
 use lib.Dec.{eqb, leb}
 use Rattle.words.specs.Word.{half, Bytes}
+use Rattle.words.proofs.SameWords.{same-words}
 use Rattle.words.proofs.Spell.{bytes-drop, bytes-take}
 use Rattle.machine.specs.declared.event.Event.{Event}
 use Rattle.trace.specs.Layout.{Layout, Lawful, stepSize, blockAfterAt}
@@ -18,7 +19,6 @@ use Rattle.trace.proofs.Faults.{else-first, head-whole}
 use Rattle.trace.proofs.Judging.{judged-right}
 use Rattle.explain.specs.Explain.{NUMBER-PART, VALUE-PART, BLOCK-PART, parts, wordFound, wordDue}
 use Rattle.explain.proofs.Differing.{Alike, First, first, part-block}
-use Rattle.explain.proofs.SameWords.{same-words}
 
 -- a head is never WRONG-STEP, so that of a wrong Step is right
 head-other : (len kind : ℕ) (r : List ℕ) → headNumber len kind r ≡ WRONG-STEP → ⊥
