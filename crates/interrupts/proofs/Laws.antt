@@ -69,6 +69,11 @@ virtual-taken k lines cpsr scr hcr =
     rw (in-guest cpsr scr)
     (parted (SCR-NS scr && guest (mode-field cpsr)) (HCR-TGE hcr) (M k hcr) (source k hcr lines) (mask k cpsr))
 
+-- whatever the kind, its three tests make the answer
+pub virtual-tests : (k : Kind) (lines cpsr hcr : ℕ) {m src msk v : Bool} → m ≡ M k hcr → src ≡ source k hcr lines
+    → msk ≡ mask k cpsr → v ≡ takenIf m src msk → v ≡ takesVirtual k lines cpsr hcr
+virtual-tests k lines cpsr hcr p q r e = cc
+
 -- the first of the six, on each way through the tests
 module _ (lines cpsr scr hcr : ℕ) where
   abbrev can : Exception → Bool
