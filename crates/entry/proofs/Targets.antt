@@ -4,11 +4,9 @@ use mathlib.Core.Bool.{Bool, true, false, not, _&&_, _||_}
 use mathlib.Core.List.{List, [], _∷_}
 use Prim.Native.Nat.{ℕ, _<_}
 use lib.Dec.{lit<}
-use borrow.Author.Tests.{eqb-true, ne-eqb}
-use Rattle.state.proofs.Test.{true-is-not-false}
 use Rattle.state.specs.Choice.{if_then_else_, _is_, _among_}
 use Rattle.state.specs.Field.{mode-field}
-use Rattle.state.specs.Mode.{FIQ, IRQ, SUPERVISOR, MONITOR, ABORT, HYP, UNDEFINED, targets, isTarget}
+use Rattle.state.specs.Mode.{MONITOR, HYP, targets, isTarget}
 use Rattle.entry.specs.Code.{UNDEFINED-INSTRUCTION, SVC, SMC, HVC, PREFETCH-ABORT, DATA-ABORT, MONITOR-TRAP}
 use Rattle.entry.specs.Route.{toMonitor, toHyp, ownMode, target, ownOffset, offsetTo, offset}
 
@@ -24,19 +22,6 @@ IsTarget m = isTarget m ≡ true
 pub listed : (m : ℕ) → (m among targets) ≡ true → IsTarget m
 unfolding isTarget
 listed m h = h
-
--- the target that is left when it is none of the other six
-pub left-over : (to : ℕ) → IsTarget to → (to ≡ FIQ → ⊥) → (to ≡ IRQ → ⊥) → (to ≡ SUPERVISOR → ⊥) → (to ≡ MONITOR → ⊥)
-    → (to ≡ ABORT → ⊥) → (to ≡ HYP → ⊥) → to ≡ UNDEFINED
-unfolding isTarget
-left-over to h f i s m a y = by (to is UNDEFINED) refl
-  where
-    by : (t : Bool) → (to is UNDEFINED) ≡ t → to ≡ UNDEFINED
-    by true e = eqb-true to UNDEFINED e
-    by false e =
-        absurd
-        (true-is-not-false h
-        (rw (ne-eqb to FIQ f, ne-eqb to IRQ i, ne-eqb to SUPERVISOR s, ne-eqb to ABORT a, e, ne-eqb to MONITOR m, ne-eqb to HYP y)))
 
 own-target : (code : ℕ) → IsTarget (ownMode code)
 unfolding isTarget

@@ -13,8 +13,7 @@ use Rattle.state.proofs.Test.{and-left, and-right, at-one}
 use Rattle.entry.specs.Code.{UNDEFINED-INSTRUCTION, SVC, SMC, HVC, PREFETCH-ABORT, DATA-ABORT, HYP-TRAP, MONITOR-TRAP, external, stage2}
 use Rattle.entry.specs.Parts.{narrow, generalToHyp, abortWay}
 use Rattle.entry.specs.Route.{wrap, offsetTo, linkTo, toMonitor, toHyp, target, offset, link, notHere, way}
-use Rattle.entry.specs.declared.route.Way.{Way}
-use Rattle.entry.specs.declared.route.Way.the-variants.{NotHere, Enter}
+use Rattle.entry.specs.Way.{Way, NotHere, Enter}
 
 -- nothing added to an address, or to a sum that has wrapped
 pub wrap-none : (x : ℕ) → x < 2 ^ 32 → wrap x 0 ≡ x
@@ -30,6 +29,23 @@ wrap-before x y h = omega arith
 el1-no-hyp : (m : ℕ) → el1 m ≡ true → (m is HYP) ≡ false
 unfolding el1
 el1-no-hyp m h = not-true (m is HYP) (at-one el1-modes (λ n. not (n is HYP)) refl m h)
+
+module _ (a cpsr scr hcr pc : ℕ) where
+  pub smc-not-here : (mode-field cpsr is USER) ≡ true → NotHere ≡ way SMC a cpsr scr hcr pc
+  unfolding way notHere
+  smc-not-here u = rw u
+
+  pub hvc-not-here : (mode-field cpsr is USER || secure cpsr scr) ≡ true → NotHere ≡ way HVC a cpsr scr hcr pc
+  unfolding way notHere
+  hvc-not-here u = rw u
+
+  pub hyp-trap-not-here : (secure cpsr scr || mode-field cpsr is HYP) ≡ true → NotHere ≡ way HYP-TRAP a cpsr scr hcr pc
+  unfolding way notHere
+  hyp-trap-not-here u = rw u
+
+  pub monitor-trap-not-here : (mode-field cpsr is MONITOR) ≡ true → NotHere ≡ way MONITOR-TRAP a cpsr scr hcr pc
+  unfolding way notHere
+  monitor-trap-not-here u = rw u
 
 module _ (a cpsr scr hcr pc : ℕ) (fits : pc < 2 ^ 32) where
   abbrev m : ℕ
@@ -66,10 +82,6 @@ module _ (a cpsr scr hcr pc : ℕ) (fits : pc < 2 ^ 32) where
       svc-link true = rw (wrap-again pc 2)
       svc-link false = rw (wrap-again pc 4)
 
-  pub smc-not-here : (m is USER) ≡ true → NotHere ≡ way SMC a cpsr scr hcr pc
-  unfolding way notHere
-  smc-not-here u = rw u
-
   pub smc-trapped : (m is USER) ≡ false → (nsEl1 cpsr scr && HCR-TSC hcr) ≡ true
       → Enter HYP 0x14 pc ≡ way SMC a cpsr scr hcr pc
   unfolding way notHere target toMonitor toHyp offset link
@@ -82,18 +94,10 @@ module _ (a cpsr scr hcr pc : ℕ) (fits : pc < 2 ^ 32) where
   unfolding way notHere target toMonitor toHyp offset link
   smc-taken u t = rw (u, t, wrap-again pc 4)
 
-  pub hvc-not-here : (m is USER || secure cpsr scr) ≡ true → NotHere ≡ way HVC a cpsr scr hcr pc
-  unfolding way notHere
-  hvc-not-here u = rw u
-
   pub hvc-taken : (m is USER || secure cpsr scr) ≡ false
       → Enter HYP (offsetTo HYP m 0x08) (wrap pc 4) ≡ way HVC a cpsr scr hcr pc
   unfolding way notHere target toMonitor toHyp offset link
   hvc-taken u = rw (u, wrap-again pc 4)
-
-  pub hyp-trap-not-here : (secure cpsr scr || m is HYP) ≡ true → NotHere ≡ way HYP-TRAP a cpsr scr hcr pc
-  unfolding way notHere
-  hyp-trap-not-here u = rw u
 
   pub hyp-trap-taken : (secure cpsr scr || m is HYP) ≡ false → Enter HYP 0x14 pc ≡ way HYP-TRAP a cpsr scr hcr pc
   unfolding way notHere target toMonitor toHyp offset link
@@ -102,10 +106,6 @@ module _ (a cpsr scr hcr pc : ℕ) (fits : pc < 2 ^ 32) where
       either-offset : (h : Bool) → _≡_ {A = ℕ} (if not h then 0x14 else 0x14) 0x14
       either-offset true = refl
       either-offset false = refl
-
-  pub monitor-trap-not-here : (m is MONITOR) ≡ true → NotHere ≡ way MONITOR-TRAP a cpsr scr hcr pc
-  unfolding way notHere
-  monitor-trap-not-here u = rw u
 
   pub monitor-trap-taken : (m is MONITOR) ≡ false
       → Enter MONITOR 0x04 (wrap pc (narrow cpsr)) ≡ way MONITOR-TRAP a cpsr scr hcr pc
@@ -139,28 +139,3 @@ module _ (a cpsr scr hcr pc : ℕ) (fits : pc < 2 ^ 32) where
   data-abort =
       aborts 0x10 8 (stage2 a && (secure cpsr scr || m is HYP)) (external a && SCR-EA scr) (stage2 a)
       (generalToHyp cpsr scr hcr)
-
-  -- A is asked of the aborts alone
-  pub undefined-any-a : way UNDEFINED-INSTRUCTION 0 cpsr scr hcr pc ≡ way UNDEFINED-INSTRUCTION a cpsr scr hcr pc
-  unfolding way notHere target toMonitor toHyp offset link
-  undefined-any-a = refl
-
-  pub svc-any-a : way SVC 0 cpsr scr hcr pc ≡ way SVC a cpsr scr hcr pc
-  unfolding way notHere target toMonitor toHyp offset link
-  svc-any-a = refl
-
-  pub smc-any-a : way SMC 0 cpsr scr hcr pc ≡ way SMC a cpsr scr hcr pc
-  unfolding way notHere target toMonitor toHyp offset link
-  smc-any-a = refl
-
-  pub hvc-any-a : way HVC 0 cpsr scr hcr pc ≡ way HVC a cpsr scr hcr pc
-  unfolding way notHere target toMonitor toHyp offset link
-  hvc-any-a = refl
-
-  pub hyp-trap-any-a : way HYP-TRAP 0 cpsr scr hcr pc ≡ way HYP-TRAP a cpsr scr hcr pc
-  unfolding way notHere target toMonitor toHyp offset link
-  hyp-trap-any-a = refl
-
-  pub monitor-trap-any-a : way MONITOR-TRAP 0 cpsr scr hcr pc ≡ way MONITOR-TRAP a cpsr scr hcr pc
-  unfolding way notHere target toMonitor toHyp offset link
-  monitor-trap-any-a = refl

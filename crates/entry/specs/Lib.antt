@@ -1,4 +1,5 @@
 pub mod Code
+pub mod Way
 pub mod Route
 pub mod Enter
 pub mod Parts

@@ -3,14 +3,13 @@
 use mathlib.Core.Bool.{Bool, _&&_, _||_}
 use Prim.Native.Nat.{ℕ, _+_, _*_}
 use Rattle.state.specs.Choice.{if_then_else_, _is_}
-use Rattle.state.specs.Field.{flag, mode-field, CPSR-T, SCR-EA, HCR-TGE}
+use Rattle.state.specs.Field.{flag, mode-field, CPSR-T, SCR-NS, SCR-EA, HCR-TGE}
 use Rattle.state.specs.Mode.{HYP, MONITOR, ABORT}
 use Rattle.state.specs.State.{secure, nsUser}
 use Rattle.entry.specs.Code.{external, stage2}
 use Rattle.entry.specs.Enter.{setsA, setsI, setsF}
 use Rattle.entry.specs.Route.{wrap, offsetTo}
-use Rattle.entry.specs.declared.route.Way.{Way}
-use Rattle.entry.specs.declared.route.Way.the-variants.{NotHere, Enter}
+use Rattle.entry.specs.Way.{Way, NotHere, Enter}
 
 -- the length of an SVC or an undefined instruction, by T
 abbrev pub narrow : ℕ → ℕ
@@ -31,3 +30,7 @@ abortWay own more a cpsr scr hcr pc =
 -- the masks A I F that an entry sets, as a number of three bits
 abbrev pub setsNumber : ℕ → ℕ → ℕ
 setsNumber to scr = flag 2 (setsA to scr) + flag 1 (setsI to scr) + flag 0 (setsF to scr)
+
+-- of a word that is banked by Security state, the place of the one in use; the Non-secure one's comes next
+abbrev pub ownPlace : ℕ → ℕ → ℕ
+ownPlace secure scr = if SCR-NS scr then secure + 1 else secure

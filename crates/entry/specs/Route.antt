@@ -8,8 +8,7 @@ use Rattle.state.specs.Field.{mode-field, CPSR-T, SCR-EA, HCR-TSC, HCR-TGE}
 use Rattle.state.specs.Mode.{USER, SUPERVISOR, MONITOR, ABORT, HYP, UNDEFINED}
 use Rattle.state.specs.State.{secure, nsEl1, nsUser}
 use Rattle.entry.specs.Code.{UNDEFINED-INSTRUCTION, SVC, SMC, HVC, PREFETCH-ABORT, DATA-ABORT, HYP-TRAP, MONITOR-TRAP, isSynchronous, isAbort, isGeneral, external, stage2}
-use Rattle.entry.specs.declared.route.Way.{Way}
-use Rattle.entry.specs.declared.route.Way.the-variants.{NotHere, Enter}
+use Rattle.entry.specs.Way.{Way, NotHere, Enter}
 
 -- "All address sums wrap at 2^32"
 abbrev pub wrap : ℕ → ℕ → ℕ

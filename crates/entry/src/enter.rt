@@ -1,11 +1,12 @@
 // An entry on a lent block (document 01, "Entry"). Only the words that change are written.
 ghost use mathlib.Core.Path.{_≡_};
 ghost use mathlib.Core.Bool.{true};
-ghost use Prim.Native.Nat.{ℕ, _<_};
+ghost use Prim.Native.Nat.{ℕ, _+_, _<_, _≤_};
 ghost use lib.ListN.{length};
 ghost use Rattle.words.specs.Word.{word};
+ghost use Rattle.state.specs.Field.{flag, SCTLR-EE, SCTLR-TE};
 ghost use Rattle.state.specs.Mode.{HYP, isTarget};
-ghost use Rattle.state.specs.Place.{BLOCK-SIZE};
+ghost use Rattle.state.specs.Place.{PLACES, BLOCK-SIZE, CPSR, SCR};
 ghost use Rattle.entry.specs.Enter.{
   nsCleared,
   masksAfter,
@@ -15,44 +16,48 @@ ghost use Rattle.entry.specs.Enter.{
   written,
   entered,
 };
-ghost use Rattle.entry.specs.Parts.{setsNumber};
-use state::field::as_number;
-use state::field::scr_ea;
-use state::field::scr_fiq;
-use state::field::scr_irq;
-use state::field::scr_ns;
-use state::field::sctlr_ee;
-use state::field::sctlr_te;
+ghost use Rattle.entry.specs.Parts.{setsNumber, ownPlace};
 use state::field::sctlr_v;
 use state::mode;
 use state::mode::Mode;
 use state::place;
-use state::state::both;
 use state::state::is_monitor;
 use std::num::wrapping_add_u32;
 use words::get_word;
 use words::put_word;
 
-// NS is cleared first where the entry comes from Monitor and does not go to Hyp.
-fn clear_ns(block: &mut [u8], to: u32)
-    requires { ⌜ length (now block) ≡ BLOCK-SIZE ⌝ }
-    ensures { λ _. ⌜ now (block .exit) ≡ nsCleared (now (block .entry)) to ⌝ }
+// NS is cleared first where the entry comes from Monitor and does not go to Hyp. The answer is SCR as it is then.
+fn clear_ns(block: &mut [u8], cpsr: u32, scr: u32, to: u32) -> u32
+    requires { ⌜ (length (now block) ≡ BLOCK-SIZE) × (cpsr ≡ word (now block) CPSR) × (scr ≡ word (now block) SCR) ⌝ }
+    ensures { λ r. ⌜ (now (block .exit) ≡ nsCleared (now (block .entry)) to) × (r ≡ word (now (block .exit)) SCR) ⌝ }
 {
-    if both(
-        is_monitor(get_word(block, place::CPSR)),
-        to != Mode::HYP.number,
-    ) {
-        let scr = get_word(block, place::SCR);
-        put_word(block, place::SCR, scr / 2 * 2);
+    if to == Mode::HYP.number {
+        return scr;
     }
+    if is_monitor(cpsr) {
+        let after = scr / 2 * 2;
+        put_word(block, place::SCR, after);
+        return after;
+    }
+    scr
 }
 
-// The masks A I F that an entry to Hyp sets, as a number of three bits.
+// The masks A I F that an entry to Hyp sets, as a number of three bits: those whose bit of SCR, EA IRQ FIQ, is 0. The
+// compiler makes a table of the match.
 fn hyp_sets(scr: u32) -> u32
     ensures { λ r. ⌜ r ≡ setsNumber HYP scr ⌝ }
     ensures small { λ r. ⌜ r < 8 ⌝ }
 {
-    as_number(!scr_ea(scr)) * 4 + as_number(!scr_irq(scr)) * 2 + as_number(!scr_fiq(scr))
+    match scr / 2 % 8 {
+        0 => 7,
+        1 => 5,
+        2 => 6,
+        3 => 4,
+        4 => 3,
+        5 => 1,
+        6 => 2,
+        _ => 0,
+    }
 }
 
 // Those that an entry to another mode sets.
@@ -89,21 +94,38 @@ fn masks_after(cpsr: u32, scr: u32, to: u32) -> u32
     (cpsr / 64 % 8 | sets(to, scr)) * 64
 }
 
+// T and E after an entry, bits 5 and 9. TE and EE are bits 5 and 0 of SCTLR from bit 25 up: times 513 puts a copy nine
+// bits higher, and the mask takes TE where it stands and EE of the copy.
+fn t_and_e(sctlr: u32) -> u32
+    ensures { λ r. ⌜ r ≡ flag 9 (SCTLR-EE sctlr) + flag 5 (SCTLR-TE sctlr) ⌝ }
+    ensures small { λ r. ⌜ r < 1024 ⌝ }
+{
+    sctlr / 0x200_0000 * 513 & 0x220
+}
+
 // CPSR after an entry.
 fn cpsr_after(cpsr: u32, scr: u32, sctlr: u32, to: u32) -> u32
     ensures { λ r. ⌜ r ≡ cpsrAfter cpsr scr sctlr to ⌝ }
 {
     cpsr / 0x800_0000 % 32 * 0x800_0000
         + cpsr / 0x1_0000 % 16 * 0x1_0000
-        + as_number(sctlr_ee(sctlr)) * 512
         + masks_after(cpsr, scr, to)
-        + as_number(sctlr_te(sctlr)) * 32
+        + t_and_e(sctlr)
         + to % 32
 }
 
-// The control word that an entry goes by.
-fn control_of(block: &[u8], to: u32) -> u32
-    requires { ⌜ length (now block) ≡ BLOCK-SIZE ⌝ }
+// Of a word that is banked by Security state, the place of the one in use: the Non-secure one's comes next.
+fn own_place(secure: usize, scr: u32) -> usize
+    requires { ⌜ secure < PLACES ⌝ }
+    ensures { λ r. ⌜ r ≡ ownPlace secure scr ⌝ }
+    ensures near { λ r. ⌜ r ≤ secure + 1 ⌝ }
+{
+    secure + (scr % 2) as usize
+}
+
+// The control word that an entry goes by; scr is the word of the block.
+fn control_of(block: &[u8], scr: u32, to: u32) -> u32
+    requires { ⌜ (length (now block) ≡ BLOCK-SIZE) × (scr ≡ word (now block) SCR) ⌝ }
     ensures { λ r. ⌜ r ≡ word (now (block .entry)) (controlPlace (now (block .entry)) to) ⌝ }
 {
     if to == Mode::HYP.number {
@@ -112,15 +134,12 @@ fn control_of(block: &[u8], to: u32) -> u32
     if to == Mode::MONITOR.number {
         return get_word(block, place::SCTLR_S);
     }
-    if scr_ns(get_word(block, place::SCR)) {
-        return get_word(block, place::SCTLR_NS);
-    }
-    get_word(block, place::SCTLR_S)
+    get_word(block, own_place(place::SCTLR_S, scr))
 }
 
-// The vector base, with its low bits; sctlr is the control word.
-fn base_of(block: &[u8], to: u32, sctlr: u32) -> u32
-    requires { ⌜ length (now block) ≡ BLOCK-SIZE ⌝ }
+// The vector base, with its low bits; scr is the word of the block, and sctlr the control word.
+fn base_of(block: &[u8], scr: u32, to: u32, sctlr: u32) -> u32
+    requires { ⌜ (length (now block) ≡ BLOCK-SIZE) × (scr ≡ word (now block) SCR) ⌝ }
     ensures { λ r. ⌜ r ≡ vectorBase (now (block .entry)) to sctlr ⌝ }
 {
     if to == Mode::HYP.number {
@@ -132,20 +151,17 @@ fn base_of(block: &[u8], to: u32, sctlr: u32) -> u32
     if sctlr_v(sctlr) {
         return 0xFFFF_0000;
     }
-    if scr_ns(get_word(block, place::SCR)) {
-        return get_word(block, place::VBAR_NS);
-    }
-    get_word(block, place::VBAR_S)
+    get_word(block, own_place(place::VBAR_S, scr))
 }
 
 // The words of an entry, in a block whose NS is as it is after the entry.
-fn write_entry(block: &mut [u8], cpsr: u32, to: u32, offset: u32, link: u32)
-    requires { ⌜ (length (now block) ≡ BLOCK-SIZE) × (isTarget to ≡ true) ⌝ }
+fn write_entry(block: &mut [u8], cpsr: u32, scr: u32, to: u32, offset: u32, link: u32)
+    requires { ⌜ (length (now block) ≡ BLOCK-SIZE) × (isTarget to ≡ true) × (scr ≡ word (now block) SCR) ⌝ }
     ensures { λ _. ⌜ now (block .exit) ≡ written (now (block .entry)) cpsr to offset link ⌝ }
 {
-    let sctlr = control_of(block, to);
-    let after = cpsr_after(cpsr, get_word(block, place::SCR), sctlr, to);
-    let start = base_of(block, to, sctlr) / 32 % 0x800_0000 * 32;
+    let sctlr = control_of(block, scr, to);
+    let after = cpsr_after(cpsr, scr, sctlr, to);
+    let start = base_of(block, scr, to, sctlr) / 32 % 0x800_0000 * 32;
     let mode = Mode { number: to };
     put_word(block, mode.spsr_place(), cpsr);
     put_word(block, mode.lr_place(), link);
@@ -153,29 +169,15 @@ fn write_entry(block: &mut [u8], cpsr: u32, to: u32, offset: u32, link: u32)
     put_word(block, place::PC, wrapping_add_u32(start, offset));
 }
 
-// An entry to the mode `to`, one way for every mode.
-fn enter_mode(block: &mut [u8], to: u32, offset: u32, link: u32)
-    requires { ⌜ (length (now block) ≡ BLOCK-SIZE) × (isTarget to ≡ true) ⌝ }
+// An entry to the mode `to` at an offset, with the word for its return address. Its callers have read CPSR and SCR, and
+// name the mode, so that the compiler makes an entry of its own for it, with its places and its masks as constants.
+pub fn enter(block: &mut [u8], cpsr: u32, scr: u32, to: u32, offset: u32, link: u32)
+    requires { ⌜ (length (now block) ≡ BLOCK-SIZE)
+        × (isTarget to ≡ true)
+        × (cpsr ≡ word (now block) CPSR)
+        × (scr ≡ word (now block) SCR) ⌝ }
     ensures { λ _. ⌜ now (block .exit) ≡ entered (now (block .entry)) to offset link ⌝ }
 {
-    let cpsr = get_word(block, place::CPSR);
-    clear_ns(block, to);
-    write_entry(block, cpsr, to, offset, link)
-}
-
-// An entry to the mode `to` at an offset, with the word for its return address. Each target is named, so that the compiler
-// makes an entry of its own for it, with its places and its masks as constants.
-pub fn enter(block: &mut [u8], to: u32, offset: u32, link: u32)
-    requires { ⌜ (length (now block) ≡ BLOCK-SIZE) × (isTarget to ≡ true) ⌝ }
-    ensures { λ _. ⌜ now (block .exit) ≡ entered (now (block .entry)) to offset link ⌝ }
-{
-    match to {
-        mode::FIQ => enter_mode(block, mode::FIQ, offset, link),
-        mode::IRQ => enter_mode(block, mode::IRQ, offset, link),
-        mode::SUPERVISOR => enter_mode(block, mode::SUPERVISOR, offset, link),
-        mode::MONITOR => enter_mode(block, mode::MONITOR, offset, link),
-        mode::ABORT => enter_mode(block, mode::ABORT, offset, link),
-        mode::HYP => enter_mode(block, mode::HYP, offset, link),
-        _ => enter_mode(block, mode::UNDEFINED, offset, link),
-    }
+    let scr_after = clear_ns(block, cpsr, scr, to);
+    write_entry(block, cpsr, scr_after, to, offset, link)
 }

@@ -7,8 +7,7 @@ use Rattle.state.specs.Field.{mode-field, HCR-TGE}
 use Rattle.state.specs.Mode.{MONITOR, HYP}
 use Rattle.state.specs.State.{secure}
 use Rattle.entry.specs.Route.{offsetTo, linkTo}
-use Rattle.entry.specs.declared.route.Way.{Way}
-use Rattle.entry.specs.declared.route.Way.the-variants.{NotHere, Enter}
+use Rattle.entry.specs.Way.{Way, NotHere, Enter}
 use Rattle.interrupts.specs.Exception.{Exception, Synchronous, SError, Fiq, Irq, VirtualSError, VirtualFiq, VirtualIrq, order}
 use Rattle.interrupts.specs.Kind.{Kind, serror, fiq, irq, R, M, ownMode, ownOffset, addend}
 use Rattle.interrupts.specs.Takeable.{takeable}

@@ -7,22 +7,22 @@ use Prim.Native.Nat.{ℕ, _^_, _<_}
 use native.Mathlib.Omega.{arith}
 use lib.Dec.{leb, lit<}
 use lib.ListN.{length}
-use borrow.Author.Tests.{eqb-true, eqb-false, leb-false}
+use borrow.Author.Tests.{eqb-true, eqb-false, eq-eqb, ne-eqb, leb-false}
 use Rattle.words.specs.Word.{word, put}
 use Rattle.words.proofs.Laws.{word-put-same, word-put-other}
 use Rattle.state.specs.Choice.{if_then_else_, _is_, _among_, firstOf}
 use Rattle.state.specs.Number.{DONE, BAD-SIZE, BAD-MODE, BAD-STATE, BAD-EVENT, NOT-HERE, NO-REGISTER}
-use Rattle.state.specs.Place.{PLACES, BLOCK-SIZE, NO-PLACE, CPSR, SCR, HCR}
+use Rattle.state.specs.Place.{PLACES, BLOCK-SIZE, NO-PLACE, CPSR, PC, SCR, HCR}
 use Rattle.state.specs.State.{fault, faultOf}
 use Rattle.entry.specs.Code.{isSynchronous}
 use Rattle.entry.specs.Route as synchronous
-use Rattle.entry.specs.declared.route.Way.{Way}
-use Rattle.entry.specs.declared.route.Way.the-variants.{NotHere, Enter}
+use Rattle.entry.specs.Way.{Way, NotHere, Enter}
+use Rattle.interrupts.specs.Check as interrupt
 use Rattle.interrupts.specs.declared.exception.Exception.the-variants.{Synchronous}
 use Rattle.banked.specs.Cell.{cell}
 use Rattle.banked.specs.Right.{right}
 use Rattle.machine.specs.Event.{Event, INTERRUPT-CHECK, BANKED-READ, BANKED-WRITE, NOTE, isBanked, isKnown, valuesOfA, takesB, badEvent}
-use Rattle.machine.specs.Parts.{accessed, notedWord, notedAction, byCode}
+use Rattle.machine.specs.Parts.{judgedPut}
 use Rattle.machine.specs.Refusal.{unknownMode, notGood, noted, refusal}
 use Rattle.machine.specs.Step.{Action, Refuse, Take, Quiet, Read, Put, takenBy, checked, doneAction, action}
 
@@ -50,20 +50,14 @@ module _ (b : List ℕ) (e : Event) where
   unfolding action refusal
   bad-size s = rw s
 
-  pub faulty : (length b is BLOCK-SIZE) ≡ true → (fault b ≡ DONE → ⊥) → Refuse (fault b) ≡ action b e
+  pub faulty : length b ≡ BLOCK-SIZE → (fault b ≡ DONE → ⊥) → Refuse (fault b) ≡ action b e
   unfolding action refusal fault faultOf
   faulty s h = by (unknownMode b) (notGood b) refl refl
     where
       by : (k g : Bool) → unknownMode b ≡ k → notGood b ≡ g → Refuse (fault b) ≡ action b e
-      by true g p q = rw (s, p)
-      by false true p q = rw (s, p, q)
+      by true g p q = rw (eq-eqb (length b) BLOCK-SIZE s, p)
+      by false true p q = rw (eq-eqb (length b) BLOCK-SIZE s, p, q)
       by false false p q = absurd (h (rw (p, q)))
-
-  -- a good block of the right size
-  module _ (s : (length b is BLOCK-SIZE) ≡ true) (k : unknownMode b ≡ false) (g : notGood b ≡ false) where
-    pub bad-event : badEvent (e .code) (e .a) (e .b) ≡ true → Refuse BAD-EVENT ≡ action b e
-    unfolding action refusal
-    bad-event h = rw (s, k, g, h)
 
 not-left : (x y : Bool) → (not x || y) ≡ false → x ≡ true
 not-left true y h = refl
@@ -77,10 +71,38 @@ known-code code a w h n9 n10 n11 n12 =
     let k = not-left (isKnown code) (leb (valuesOfA code) a || (not (takesB code) && not (w is 0))) h in
     sym (or-false (isSynchronous code)) ∙ rw (n9, n10, n11, n12) at k
 
--- an event that is well formed, on a good block of the right size, by its code
-module _ (b : List ℕ) (a w : ℕ) (s : (length b is BLOCK-SIZE) ≡ true) (k : unknownMode b ≡ false) (g : notGood b ≡ false) where
-  at-check : badEvent INTERRUPT-CHECK a w ≡ false → byCode b INTERRUPT-CHECK a w ≡ action b (event INTERRUPT-CHECK a w)
-  unfolding action refusal doneAction byCode
+-- a banked access at the place p, by its right: no register, no right, or the access x itself
+unfoldable pub accessed : ℕ → ℕ → Action → Action
+accessed p n x = if p is NO-PLACE then Refuse NO-REGISTER else (if n is DONE then x else Refuse n)
+
+-- the word u of the place p, once the word v is put at the place a
+abbrev pub notedWord : ℕ → ℕ → ℕ → ℕ → ℕ
+notedWord a v p u = if a is p then v else u
+
+-- an event on a good block of the right size
+module _ (b : List ℕ) (a w : ℕ) (size : length b ≡ BLOCK-SIZE) (good : fault b ≡ DONE) where
+  s : (length b is BLOCK-SIZE) ≡ true
+  s = eq-eqb (length b) BLOCK-SIZE size
+
+  k : unknownMode b ≡ false
+  k = fault-clear b good .0
+
+  g : notGood b ≡ false
+  g = fault-clear b good .1
+
+  pub bad-event : (code : ℕ) → badEvent code a w ≡ true → Refuse BAD-EVENT ≡ action b (event code a w)
+  unfolding action refusal
+  bad-event code h = rw (s, k, g, h)
+
+  -- a code that is none of the table's
+  pub no-code : (code : ℕ) → isKnown code ≡ false → Refuse BAD-EVENT ≡ action b (event code a w)
+  unfolding badEvent
+  no-code code h = bad-event code (rw h)
+
+  pub at-check : badEvent INTERRUPT-CHECK a w ≡ false
+      → checked a (word b CPSR) (word b SCR) (word b HCR) (word b PC) (interrupt.found a (word b CPSR) (word b SCR) (word b HCR))
+      ≡ action b (event INTERRUPT-CHECK a w)
+  unfolding action refusal doneAction
   at-check h = rw (s, k, g, h)
 
   -- a refusal by a number that may be DONE
@@ -100,13 +122,15 @@ module _ (b : List ℕ) (a w : ℕ) (s : (length b is BLOCK-SIZE) ≡ true) (k :
   accessed-by true n x = refl
   accessed-by false n x = choose n x
 
-  at-read : badEvent BANKED-READ a w ≡ false → byCode b BANKED-READ a w ≡ action b (event BANKED-READ a w)
-  unfolding action refusal doneAction byCode accessed
+  pub at-read : badEvent BANKED-READ a w ≡ false
+      → accessed (cell a) (right (cell a) (word b CPSR) (word b SCR)) (Read (cell a)) ≡ action b (event BANKED-READ a w)
+  unfolding action refusal doneAction accessed
   at-read h =
       rw (s, k, g, h) (accessed-by (cell a is NO-PLACE) (right (cell a) (word b CPSR) (word b SCR)) (Read (cell a)))
 
-  at-write : badEvent BANKED-WRITE a w ≡ false → byCode b BANKED-WRITE a w ≡ action b (event BANKED-WRITE a w)
-  unfolding action refusal doneAction byCode accessed
+  pub at-write : badEvent BANKED-WRITE a w ≡ false
+      → accessed (cell a) (right (cell a) (word b CPSR) (word b SCR)) (Put (cell a) w) ≡ action b (event BANKED-WRITE a w)
+  unfolding action refusal doneAction accessed
   at-write h =
       rw (s, k, g, h) (accessed-by (cell a is NO-PLACE) (right (cell a) (word b CPSR) (word b SCR)) (Put (cell a) w))
 
@@ -125,7 +149,6 @@ module _ (b : List ℕ) (a w : ℕ) (s : (length b is BLOCK-SIZE) ≡ true) (k :
       by : (t : Bool) → (a is p) ≡ t → word (put b a w) p ≡ notedWord a w p (word b p)
       by true e =
           let q = eqb-true a p e in
-          let n = eqb-true (length b) BLOCK-SIZE s in
           rw (e, ← q) (word-put-same b a w (omega arith) lw)
       by false e = rw e (word-put-other b a w p (eqb-false a p e))
 
@@ -146,40 +169,47 @@ module _ (b : List ℕ) (a w : ℕ) (s : (length b is BLOCK-SIZE) ≡ true) (k :
   unfolding badEvent
   note-in-range h = sym (or-false (leb PLACES a)) ∙ h
 
-  at-note : w < 2 ^ 32 → badEvent NOTE a w ≡ false
-      → notedAction a w (word b CPSR) (word b SCR) (word b HCR) ≡ action b (event NOTE a w)
-  unfolding action refusal doneAction notedAction
+  pub at-note : w < 2 ^ 32 → badEvent NOTE a w ≡ false
+      → judgedPut a w (faultOf (notedWord a w CPSR (word b CPSR)) (notedWord a w SCR (word b SCR)) (notedWord a w HCR (word b HCR)))
+      ≡ action b (event NOTE a w)
+  unfolding action refusal doneAction judgedPut
   at-note lw h =
       let la : a < PLACES = leb-false PLACES a (note-in-range h) in
       rw (noted-fault la lw, s, k, g, h)
 
-  at-note-code : w < 2 ^ 32 → badEvent NOTE a w ≡ false → byCode b NOTE a w ≡ action b (event NOTE a w)
-  unfolding byCode
-  at-note-code lw h = at-note lw h
-
   -- a synchronous event: not here, or on its way
-  at-synchronous : (code : ℕ) → badEvent code a w ≡ false → isSynchronous code ≡ true → (code is INTERRUPT-CHECK) ≡ false
+  pub at-synchronous : (code : ℕ) → badEvent code a w ≡ false → isSynchronous code ≡ true → (code is INTERRUPT-CHECK) ≡ false
       → (code is BANKED-READ) ≡ false → (code is BANKED-WRITE) ≡ false → (code is NOTE) ≡ false
-      → byCode b code a w ≡ action b (event code a w)
-  unfolding action refusal doneAction byCode synchronous.way
+      → takenBy Synchronous (synchronous.way code a (word b CPSR) (word b SCR) (word b HCR) (word b PC)) ≡ action b (event code a w)
+  unfolding action refusal doneAction synchronous.way
   at-synchronous code h y n9 n10 n11 n12 = by (synchronous.notHere code a (word b CPSR) (word b SCR)) refl
     where
-      by : (t : Bool) → synchronous.notHere code a (word b CPSR) (word b SCR) ≡ t → byCode b code a w ≡ action b (event code a w)
-      by true e = rw (s, k, g, h, y, e, n9, n10, n11, n12)
+      by : (t : Bool) → synchronous.notHere code a (word b CPSR) (word b SCR) ≡ t
+          → takenBy Synchronous (synchronous.way code a (word b CPSR) (word b SCR) (word b HCR) (word b PC)) ≡ action b (event code a w)
+      by true e = rw (s, k, g, h, y, e)
       by false e = rw (s, k, g, h, y, e, n9, n10, n11, n12)
 
-  pub decided : (code : ℕ) → w < 2 ^ 32 → badEvent code a w ≡ false → byCode b code a w ≡ action b (event code a w)
-  decided code lw h = by (code is INTERRUPT-CHECK) (code is BANKED-READ) (code is BANKED-WRITE) (code is NOTE) refl refl refl refl
-    where
-      at : {n : ℕ} → code ≡ n → (badEvent n a w ≡ false → byCode b n a w ≡ action b (event n a w))
-          → byCode b code a w ≡ action b (event code a w)
-      at {n} e f = rw e (f (rw e at h))
+-- the fault of the words that were read is the block's
+pub fault-read : (b : List ℕ) {n cpsr scr hcr : ℕ} → cpsr ≡ word b CPSR → scr ≡ word b SCR → hcr ≡ word b HCR
+    → n ≡ faultOf cpsr scr hcr → n ≡ fault b
+unfolding fault
+fault-read b ec es eh h = rw (← ec, ← es, ← eh) h
 
-      by : (t9 t10 t11 t12 : Bool) → (code is INTERRUPT-CHECK) ≡ t9 → (code is BANKED-READ) ≡ t10
-          → (code is BANKED-WRITE) ≡ t11 → (code is NOTE) ≡ t12 → byCode b code a w ≡ action b (event code a w)
-      by true t10 t11 t12 e9 e10 e11 e12 = at (eqb-true code INTERRUPT-CHECK e9) at-check
-      by false true t11 t12 e9 e10 e11 e12 = at (eqb-true code BANKED-READ e10) at-read
-      by false false true t12 e9 e10 e11 e12 = at (eqb-true code BANKED-WRITE e11) at-write
-      by false false false true e9 e10 e11 e12 = at (eqb-true code NOTE e12) (at-note-code lw)
-      by false false false false e9 e10 e11 e12 =
-          at-synchronous code h (known-code code a w h e9 e10 e11 e12) e9 e10 e11 e12
+-- a code that is none of the twelve
+pub none-of-twelve : (code : ℕ) → (code ≡ 1 → ⊥) → (code ≡ 2 → ⊥) → (code ≡ 3 → ⊥) → (code ≡ 4 → ⊥) → (code ≡ 5 → ⊥) → (code ≡ 6 → ⊥)
+    → (code ≡ 7 → ⊥) → (code ≡ 8 → ⊥) → (code ≡ 9 → ⊥) → (code ≡ 10 → ⊥) → (code ≡ 11 → ⊥) → (code ≡ 12 → ⊥) → isKnown code ≡ false
+none-of-twelve code n1 n2 n3 n4 n5 n6 n7 n8 n9 n10 n11 n12 =
+    simp (
+      ne-eqb code 1 n1,
+      ne-eqb code 2 n2,
+      ne-eqb code 3 n3,
+      ne-eqb code 4 n4,
+      ne-eqb code 5 n5,
+      ne-eqb code 6 n6,
+      ne-eqb code 7 n7,
+      ne-eqb code 8 n8,
+      ne-eqb code 9 n9,
+      ne-eqb code 10 n10,
+      ne-eqb code 11 n11,
+      ne-eqb code 12 n12,
+    )

@@ -18,8 +18,7 @@ use Rattle.state.specs.State.{secure}
 use Rattle.entry.specs.Enter.{nsCleared, written, entered}
 use Rattle.entry.specs.Code.{isSynchronous}
 use Rattle.entry.specs.Route as synchronous
-use Rattle.entry.specs.declared.route.Way.{Way}
-use Rattle.entry.specs.declared.route.Way.the-variants.{NotHere, Enter}
+use Rattle.entry.specs.Way.{Way, NotHere, Enter}
 use Rattle.entry.proofs.Targets.{chosen}
 use Rattle.interrupts.specs.Check as interrupt
 use Rattle.interrupts.specs.Exception.{which}

@@ -2,8 +2,14 @@ pub mod Rows
 pub mod Deciding
 pub mod Sound
 pub mod Buffer
+pub mod Carrying
+pub mod Access
+pub mod Noting
+pub mod Routing
+pub mod Interrupting
 pub mod Stepping
 pub mod Laws
+pub mod Replay
 pub mod Cases
 pub mod Theorems
 pub mod Wrong

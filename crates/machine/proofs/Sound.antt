@@ -15,8 +15,7 @@ use Rattle.state.proofs.Test.{at-one}
 use Rattle.state.specs.Place.{PLACES, NO-PLACE, CPSR, PC, SCR, HCR}
 use Rattle.entry.specs.Code.{isSynchronous}
 use Rattle.entry.specs.Route as synchronous
-use Rattle.entry.specs.declared.route.Way.{Way}
-use Rattle.entry.specs.declared.route.Way.the-variants.{NotHere, Enter}
+use Rattle.entry.specs.Way.{Way, NotHere, Enter}
 use Rattle.entry.proofs.Targets.{target-is-one}
 use Rattle.entry.proofs.Targets as entry
 use Rattle.interrupts.specs.Check as interrupt

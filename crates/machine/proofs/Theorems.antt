@@ -22,8 +22,7 @@ use Rattle.state.proofs.Test.{and-left, and-right}
 use Rattle.entry.specs.Code.{isSynchronous}
 use Rattle.entry.specs.Enter.{nsCleared, cpsrAfter, controlPlace, vectorBase, vector, entered}
 use Rattle.entry.specs.Route as synchronous
-use Rattle.entry.specs.declared.route.Way.{Way}
-use Rattle.entry.specs.declared.route.Way.the-variants.{NotHere, Enter}
+use Rattle.entry.specs.Way.{Way, NotHere, Enter}
 use Rattle.entry.proofs.Keeps as entry
 use Rattle.entry.proofs.Targets.{target-is-one}
 use Rattle.interrupts.specs.Check as interrupt

@@ -1,50 +1,42 @@
--- What the code's own parts answer. Nobody has to believe these: the laws of proofs/ join them to `action`.
+-- What the code's own parts ask and answer. Nobody has to believe these: they stand between the code and the rules, and the
+-- laws of proofs/ join them to `action`.
 use mathlib.Core.Path.{_≡_}
 use mathlib.Core.Bool.{true}
 use mathlib.Core.List.{List}
-use Prim.Native.Nat.{ℕ, _<_}
+use Prim.Native.Nat.{ℕ, _<_, _^_}
+use lib.ListN.{length}
 use Rattle.words.specs.Word.{word}
 use Rattle.state.specs.Choice.{if_then_else_, _is_}
 use Rattle.state.specs.Mode.{isTarget}
-use Rattle.state.specs.Number.{DONE, NO-REGISTER}
-use Rattle.state.specs.Place.{PLACES, NO-PLACE, CPSR, PC, SCR, HCR}
-use Rattle.state.specs.State.{faultOf}
-use Rattle.entry.specs.Route as synchronous
-use Rattle.interrupts.specs.Check as interrupt
-use Rattle.interrupts.specs.declared.exception.Exception.the-variants.{Synchronous}
-use Rattle.banked.specs.Cell.{cell}
-use Rattle.banked.specs.Right.{right}
-use Rattle.machine.specs.Event.{INTERRUPT-CHECK, BANKED-READ, NOTE, isBanked}
-use Rattle.machine.specs.Step.{Action, Refuse, Take, Quiet, Read, Put, takenBy, checked}
-use Rattle.machine.specs.Verdict.{Verdict, Entry, NothingTaken, Register, Written}
+use Rattle.state.specs.Number.{DONE}
+use Rattle.state.specs.Place.{PLACES, BLOCK-SIZE, CPSR, SCR}
+use Rattle.state.specs.State.{fault}
+use Rattle.machine.specs.Step.{ANSWER-SIZE, Action, Refuse, Take, Quiet, Read, Put, answerTo, blockAfter, answerBytes}
+use Rattle.machine.specs.Verdict.{Answer, Verdict, Entry, NothingTaken, Register, Written}
 
--- a banked access on the words of a block
-unfoldable pub accessed : ℕ → ℕ → ℕ → ℕ → ℕ → Action
-accessed code a w cpsr scr =
-    if cell a is NO-PLACE then Refuse NO-REGISTER else
-    if right (cell a) cpsr scr is DONE then (if code is BANKED-READ then Read (cell a) else Put (cell a) w) else
-    Refuse (right (cell a) cpsr scr)
+-- a block and an answer buffer that have their sizes, and two words of the block, read before
+abbrev pub Lent : List ℕ → List ℕ → ℕ → ℕ → Type 0
+Lent b m cpsr scr = (length b ≡ BLOCK-SIZE) × (length m ≡ ANSWER-SIZE) × (cpsr ≡ word b CPSR) × (scr ≡ word b SCR)
 
--- the word w of the place p, once the word v is put at the place a
-abbrev pub notedWord : ℕ → ℕ → ℕ → ℕ → ℕ
-notedWord a v p w = if a is p then v else w
+-- the same, and the block is good
+abbrev pub Ready : List ℕ → List ℕ → ℕ → ℕ → Type 0
+Ready b m cpsr scr = Lent b m cpsr scr × (fault b ≡ DONE)
 
--- a note on the words of a block
-unfoldable pub notedAction : ℕ → ℕ → ℕ → ℕ → ℕ → Action
-notedAction a v cpsr scr hcr =
-    if faultOf (notedWord a v CPSR cpsr) (notedWord a v SCR scr) (notedWord a v HCR hcr) is DONE then Put a v else
-    Refuse (faultOf (notedWord a v CPSR cpsr) (notedWord a v SCR scr) (notedWord a v HCR hcr))
+-- an answer told: its number is returned and its bytes fill the buffer; its value is a word
+abbrev pub Told : Answer → ℕ → List ℕ → Type 0
+Told x n m = (n ≡ x .number) × (m ≡ answerBytes x) × (x .value < 2 ^ 32)
 
--- an event that is well formed, on a good block
-unfoldable pub byCode : List ℕ → ℕ → ℕ → ℕ → Action
-byCode b code a w =
-    if code is INTERRUPT-CHECK then
-    checked a (word b CPSR) (word b SCR) (word b HCR) (word b PC)
-    (interrupt.found a (word b CPSR) (word b SCR) (word b HCR))
-    else
-    if isBanked code then accessed code a w (word b CPSR) (word b SCR) else
-    if code is NOTE then notedAction a w (word b CPSR) (word b SCR) (word b HCR) else
-    takenBy Synchronous (synchronous.way code a (word b CPSR) (word b SCR) (word b HCR) (word b PC))
+-- an action carried out: the block that it leaves, and its answer told
+abbrev pub Carried : List ℕ → Action → ℕ → List ℕ → List ℕ → Type 0
+Carried b x n l m = (l ≡ blockAfter b x) × Told (answerTo b x) n m
+
+-- what the link of an abort has added, by the offset of the abort
+abbrev pub abortMore : ℕ → ℕ
+abortMore own = if own is 0x0C then 4 else 8
+
+-- the word v put at the place p, unless n refuses it
+unfoldable pub judgedPut : ℕ → ℕ → ℕ → Action
+judgedPut p v n = if n is DONE then Put p v else Refuse n
 
 -- what carrying an action out asks of it: its places lie in the block, and an entry's target and offset are small
 abbrev pub Sound : Action → Type 0

@@ -10,8 +10,7 @@ use Rattle.state.specs.Number.{DONE, BAD-SIZE, NOT-HERE}
 use Rattle.state.specs.Place.{BLOCK-SIZE, CPSR, PC, SCR, HCR}
 use Rattle.entry.specs.Enter.{entered}
 use Rattle.entry.specs.Route as synchronous
-use Rattle.entry.specs.declared.route.Way.{Way}
-use Rattle.entry.specs.declared.route.Way.the-variants.{NotHere, Enter}
+use Rattle.entry.specs.Way.{Way, NotHere, Enter}
 use Rattle.interrupts.specs.Check as interrupt
 use Rattle.interrupts.specs.declared.exception.Exception.{Exception}
 use Rattle.interrupts.specs.declared.exception.Exception.the-variants.{Synchronous, SError, Fiq, Irq, VirtualSError, VirtualFiq, VirtualIrq}
@@ -21,8 +20,7 @@ use Rattle.banked.specs.Cell.{cell}
 use Rattle.machine.specs.Event.{Event, INTERRUPT-CHECK, BANKED-READ, BANKED-WRITE, NOTE}
 use Rattle.machine.specs.Refusal.{refusal}
 use Rattle.machine.specs.Verdict.{Answer, Verdict, Entry, NothingTaken, Register, Written, answerFor, refusedWith}
-pub use Rattle.machine.specs.declared.action.Action.{Action}
-pub use Rattle.machine.specs.declared.action.Action.the-variants.{Refuse, Take, Quiet, Read, Put}
+pub use Rattle.machine.specs.Action.{Action, Refuse, Take, Quiet, Read, Put}
 
 -- the bytes of an answer buffer
 abbrev pub ANSWER-SIZE : ℕ

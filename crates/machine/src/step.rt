@@ -1,180 +1,81 @@
-// One step: an event on a lent block (document 01, "Answer numbers").
+// One step: an event on a lent block (document 01, "Answer numbers"). The block is judged once, then the code says which
+// event it is, and the event's own function does the rest.
+//
+// `step` and `replay` are the same step. There are two because the compiler makes a function that is called from one place
+// part of that place: with one, all twelve events would share a single body, and every step would save and restore the
+// registers of the dearest (docs/DECISIONS.md, "Figures").
 ghost use mathlib.Core.Path.{_≡_};
-ghost use mathlib.Core.Bool.{true};
-ghost use mathlib.Core.List.{_++_};
 ghost use Prim.Native.Nat.{_<_, _^_};
 ghost use lib.ListN.{length};
-ghost use Rattle.words.specs.Word.{le32};
-ghost use Rattle.state.specs.Mode.{isTarget};
 ghost use Rattle.state.specs.Place.{BLOCK-SIZE};
-ghost use Rattle.entry.specs.Enter.{entered};
-ghost use Rattle.machine.specs.Parts.{Sound, Small};
+ghost use Rattle.machine.specs.Parts.{Carried};
 ghost use Rattle.machine.specs.Step.{
   ANSWER-SIZE,
-  vaCleared,
-  answerTo,
-  blockAfter,
+  action,
   answer,
   after,
   numberReturned,
   blockLeft,
   answerLeft,
-  answerBytes,
 };
-ghost use Rattle.machine.specs.Verdict.{value, answerFor, refusedWith};
-use crate::action::Action;
-use crate::decide::decide;
+use crate::answer::VALUE;
+use crate::answer::refuse;
+use crate::event::BANKED_READ;
+use crate::event::BANKED_WRITE;
 use crate::event::Event;
+use crate::event::INTERRUPT_CHECK;
+use crate::event::NOTE;
+use crate::interrupt::interrupt_check;
+use crate::synchronous;
 use crate::verdict::Answer;
-use crate::verdict::Verdict;
-use entry::enter::enter;
-use interrupts::exception::Exception;
-use interrupts::exception::which_of;
+use crate::word::banked_read;
+use crate::word::banked_write;
+use crate::word::note;
+use entry::code;
 use state::number;
 use state::place;
+use state::state::fault_of;
 use words::get_word;
-use words::put_word;
 
 // The bytes of an answer buffer.
 pub const ANSWER_SIZE: usize = 8;
 
-// The value that tells a verdict.
-fn value_of(v: Verdict) -> u32
-    requires { ⌜ Small v ⌝ }
-    ensures { λ r. ⌜ r ≡ value v ⌝ }
-{
-    match v {
-        Verdict::Entry {
-            which,
-            mode,
-            offset,
-        } => which_of(which) * 65536 + mode * 256 + offset,
-        Verdict::NothingTaken(_) => 0,
-        Verdict::Register(w) => w,
-        Verdict::Written(_) => 0,
-    }
-}
-
-// The answer to a done step: made of the verdict here and nowhere else.
-fn answer_of(v: Verdict) -> Answer
-    requires { ⌜ Small v ⌝ }
-    ensures { λ r. ⌜ r ≡ answerFor v ⌝ }
-{
-    Answer {
-        number: number::DONE,
-        value: value_of(v),
-    }
-}
-
-// The answer to a refused one.
-fn refused(n: u32) -> Answer
-    ensures { λ r. ⌜ r ≡ refusedWith n ⌝ }
-{
-    Answer {
-        number: n,
-        value: 0,
-    }
-}
-
-// Taking virtual SError clears HCR.VA.
-fn clear_va(block: &mut [u8], which: Exception)
-    requires { ⌜ length (now block) ≡ BLOCK-SIZE ⌝ }
-    ensures { λ _. ⌜ now (block .exit) ≡ vaCleared (now (block .entry)) which ⌝ }
-{
-    match which {
-        Exception::VirtualSError => {
-            let hcr = get_word(block, place::HCR);
-            put_word(block, place::HCR, hcr / 512 * 512 + hcr % 256);
-        }
-        Exception::Synchronous => {}
-        Exception::SError => {}
-        Exception::Fiq => {}
-        Exception::Irq => {}
-        Exception::VirtualFiq => {}
-        Exception::VirtualIrq => {}
-    }
-}
-
-// An exception is taken.
-fn take(block: &mut [u8], which: Exception, to: u32, offset: u32, link: u32)
-    requires { ⌜ (length (now block) ≡ BLOCK-SIZE) × (isTarget to ≡ true) ⌝ }
-    ensures { λ _. ⌜ now (block .exit) ≡ entered (vaCleared (now (block .entry)) which) to offset link ⌝ }
-{
-    clear_va(block, which);
-    enter(block, to, offset, link)
-}
-
-// The event is carried out as decided, and answered.
-fn act(block: &mut [u8], action: Action) -> Answer
-    requires { ⌜ (length (now block) ≡ BLOCK-SIZE) × Sound action ⌝ }
-    ensures answers { λ r. ⌜ r ≡ answerTo (now (block .entry)) action ⌝ }
-    ensures leaves { λ _. ⌜ now (block .exit) ≡ blockAfter (now (block .entry)) action ⌝ }
-{
-    match action {
-        Action::Refuse(n) => refused(n),
-        Action::Take {
-            which,
-            to,
-            offset,
-            link,
-        } => {
-            take(block, which, to, offset, link);
-            answer_of(Verdict::Entry {
-                which: which,
-                mode: to,
-                offset: offset,
-            })
-        }
-        Action::Quiet(lines) => answer_of(Verdict::NothingTaken(lines)),
-        Action::Read(p) => answer_of(Verdict::Register(get_word(block, p))),
-        Action::Put(p, w) => {
-            put_word(block, p, w);
-            answer_of(Verdict::Written(w))
-        }
-    }
-}
-
-// Number and value, four bytes each.
-fn write_answer(buffer: &mut [u8], number: u32, value: u32)
-    requires { ⌜ length (now buffer) ≡ ANSWER-SIZE ⌝ }
-    ensures { λ _. ⌜ now (buffer .exit) ≡ (le32 number ++ le32 value) ⌝ }
-{
-    put_word(buffer, 0, number);
-    put_word(buffer, 1, value);
-}
-
-// The event is decided, carried out and answered, in buffers that have their sizes. Both ways in end here, so that neither
-// pays for a call inside the other.
-fn perform(block: &mut [u8], code: u32, a: u32, b: u32, buffer: &mut [u8]) -> u32
+// A step on buffers that have their sizes.
+fn step_sized(block: &mut [u8], code: u32, a: u32, b: u32, buffer: &mut [u8]) -> u32
     requires { ⌜ (length (now block) ≡ BLOCK-SIZE) × (length (now buffer) ≡ ANSWER-SIZE) ⌝ }
-    ensures number { λ r. ⌜ r ≡ answer (now (block .entry)) (record { code = code; a = a; b = b }) .number ⌝ }
-    ensures leaves { λ _. ⌜ now (block .exit) ≡ after (now (block .entry)) (record { code = code; a = a; b = b }) ⌝ }
-    ensures answers { λ _. ⌜ now (buffer .exit) ≡ answerBytes (answer (now (block .entry)) (record { code = code; a = a; b = b })) ⌝ }
-    ensures fits { λ _. ⌜ answer (now (block .entry)) (record { code = code; a = a; b = b }) .value < 2 ^ 32 ⌝ }
+    ensures { λ r. ⌜ Carried (now (block .entry)) (action (now (block .entry)) (record { code = code; a = a; b = b })) r (now (block .exit)) (now (buffer .exit)) ⌝ }
 {
-    let action = decide(block, code, a, b);
-    let r = act(block, action);
-    write_answer(buffer, r.number, r.value);
-    r.number
+    let cpsr = get_word(block, place::CPSR);
+    let scr = get_word(block, place::SCR);
+    let fault = fault_of(cpsr, scr, get_word(block, place::HCR));
+    if fault != number::DONE {
+        return refuse(buffer, fault);
+    }
+    match code {
+        code::UNDEFINED_INSTRUCTION => synchronous::undefined_instruction(
+            block,
+            cpsr,
+            scr,
+            a,
+            b,
+            buffer,
+        ),
+        code::SVC => synchronous::svc(block, cpsr, scr, a, b, buffer),
+        code::SMC => synchronous::smc(block, cpsr, scr, a, b, buffer),
+        code::HVC => synchronous::hvc(block, cpsr, scr, a, b, buffer),
+        code::PREFETCH_ABORT => synchronous::prefetch_abort(block, cpsr, scr, a, b, buffer),
+        code::DATA_ABORT => synchronous::data_abort(block, cpsr, scr, a, b, buffer),
+        code::HYP_TRAP => synchronous::hyp_trap(block, cpsr, scr, a, b, buffer),
+        code::MONITOR_TRAP => synchronous::monitor_trap(block, cpsr, scr, a, b, buffer),
+        INTERRUPT_CHECK => interrupt_check(block, cpsr, scr, a, b, buffer),
+        BANKED_READ => banked_read(block, cpsr, scr, a, b, buffer),
+        BANKED_WRITE => banked_write(block, cpsr, scr, a, b, buffer),
+        NOTE => note(block, cpsr, scr, a, b, buffer),
+        _ => refuse(buffer, number::BAD_EVENT),
+    }
 }
 
-// One event on a block of any size: the core that everything else stands on.
-pub fn step_event(block: &mut [u8], e: Event) -> Answer
-    ensures answers { λ r. ⌜ r ≡ answer (now (block .entry)) e ⌝ }
-    ensures leaves { λ _. ⌜ now (block .exit) ≡ after (now (block .entry)) e ⌝ }
-{
-    if block.len() != place::BLOCK_SIZE {
-        return refused(number::BAD_SIZE);
-    }
-    let mut buffer = [0u8; ANSWER_SIZE];
-    let number = perform(block, e.code, e.a, e.b, &mut buffer);
-    Answer {
-        number: number,
-        value: get_word(&buffer, 1),
-    }
-}
-
-// The same over a lent answer buffer; the number is returned too.
+// One event on a block, over a lent answer buffer; the number is returned too. On BAD_SIZE neither changes.
 pub fn step(block: &mut [u8], code: u32, a: u32, b: u32, buffer: &mut [u8]) -> u32
     ensures number { λ r. ⌜ r ≡ numberReturned (now (block .entry)) (record { code = code; a = a; b = b }) (now (buffer .entry)) ⌝ }
     ensures leaves { λ _. ⌜ now (block .exit) ≡ blockLeft (now (block .entry)) (record { code = code; a = a; b = b }) (now (buffer .entry)) ⌝ }
@@ -186,5 +87,69 @@ pub fn step(block: &mut [u8], code: u32, a: u32, b: u32, buffer: &mut [u8]) -> u
     if buffer.len() != ANSWER_SIZE {
         return number::BAD_SIZE;
     }
-    perform(block, code, a, b, buffer)
+    step_sized(block, code, a, b, buffer)
+}
+
+// The same for `replay`.
+fn replay_sized(block: &mut [u8], code: u32, a: u32, b: u32, buffer: &mut [u8]) -> u32
+    requires { ⌜ (length (now block) ≡ BLOCK-SIZE) × (length (now buffer) ≡ ANSWER-SIZE) ⌝ }
+    ensures { λ r. ⌜ Carried (now (block .entry)) (action (now (block .entry)) (record { code = code; a = a; b = b })) r (now (block .exit)) (now (buffer .exit)) ⌝ }
+{
+    let cpsr = get_word(block, place::CPSR);
+    let scr = get_word(block, place::SCR);
+    let fault = fault_of(cpsr, scr, get_word(block, place::HCR));
+    if fault != number::DONE {
+        return refuse(buffer, fault);
+    }
+    match code {
+        code::UNDEFINED_INSTRUCTION => synchronous::undefined_instruction(
+            block,
+            cpsr,
+            scr,
+            a,
+            b,
+            buffer,
+        ),
+        code::SVC => synchronous::svc(block, cpsr, scr, a, b, buffer),
+        code::SMC => synchronous::smc(block, cpsr, scr, a, b, buffer),
+        code::HVC => synchronous::hvc(block, cpsr, scr, a, b, buffer),
+        code::PREFETCH_ABORT => synchronous::prefetch_abort(block, cpsr, scr, a, b, buffer),
+        code::DATA_ABORT => synchronous::data_abort(block, cpsr, scr, a, b, buffer),
+        code::HYP_TRAP => synchronous::hyp_trap(block, cpsr, scr, a, b, buffer),
+        code::MONITOR_TRAP => synchronous::monitor_trap(block, cpsr, scr, a, b, buffer),
+        INTERRUPT_CHECK => interrupt_check(block, cpsr, scr, a, b, buffer),
+        BANKED_READ => banked_read(block, cpsr, scr, a, b, buffer),
+        BANKED_WRITE => banked_write(block, cpsr, scr, a, b, buffer),
+        NOTE => note(block, cpsr, scr, a, b, buffer),
+        _ => refuse(buffer, number::BAD_EVENT),
+    }
+}
+
+// The same step, for who goes over a trace again; its value is a word.
+pub fn replay(block: &mut [u8], code: u32, a: u32, b: u32, buffer: &mut [u8]) -> u32
+    ensures number { λ r. ⌜ r ≡ numberReturned (now (block .entry)) (record { code = code; a = a; b = b }) (now (buffer .entry)) ⌝ }
+    ensures leaves { λ _. ⌜ now (block .exit) ≡ blockLeft (now (block .entry)) (record { code = code; a = a; b = b }) (now (buffer .entry)) ⌝ }
+    ensures answers { λ _. ⌜ now (buffer .exit) ≡ answerLeft (now (block .entry)) (record { code = code; a = a; b = b }) (now (buffer .entry)) ⌝ }
+    ensures fits { λ _. ⌜ (length (now (block .entry)) ≡ BLOCK-SIZE → length (now (buffer .entry)) ≡ ANSWER-SIZE → answer (now (block .entry)) (record { code = code; a = a; b = b }) .value < 2 ^ 32) ⌝ }
+{
+    if block.len() != place::BLOCK_SIZE {
+        return number::BAD_SIZE;
+    }
+    if buffer.len() != ANSWER_SIZE {
+        return number::BAD_SIZE;
+    }
+    replay_sized(block, code, a, b, buffer)
+}
+
+// The same with the event and the answer as values, on a block of any size.
+pub fn step_event(block: &mut [u8], e: Event) -> Answer
+    ensures answers { λ r. ⌜ r ≡ answer (now (block .entry)) e ⌝ }
+    ensures leaves { λ _. ⌜ now (block .exit) ≡ after (now (block .entry)) e ⌝ }
+{
+    let mut buffer = [0u8; ANSWER_SIZE];
+    let number = replay(block, e.code, e.a, e.b, &mut buffer);
+    Answer {
+        number: number,
+        value: get_word(&buffer, VALUE),
+    }
 }

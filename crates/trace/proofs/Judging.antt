@@ -1,7 +1,9 @@
 -- What the code's tests say in the terms of the definitions: one word is both halves of a head, and a Step under a right
 -- head is the one that the rules give exactly where its number, its value and its block are.
 use mathlib.Core.Path.{_≡_, refl, sym, ap, _∙_}
+use mathlib.Core.Bool.{Bool, true, false}
 use mathlib.Core.List.{List, _++_, append-nil}
+use mathlib.Core.Logic.{_↔_}
 use Prim.Native.Nat.{ℕ, zero, suc, _+_, _-_, _*_, _<_, _≤_, _^_}
 use native.Mathlib.Omega.{arith}
 use native.Mathlib.Nat.{mul-zero, mul-suc}
@@ -17,7 +19,7 @@ use Rattle.trace.specs.Layout.{Layout, Lawful, startSize, stepSize, endS
 use Rattle.trace.specs.Published.{IsAnswer, stepShowing, stepRecord}
 use Rattle.trace.specs.Report.{_else_, headNumber, startNumber, stepNumber, endNumber, endReport, reportFrom, report, eventOf, refused, BAD-RECORD, WRONG-STEP, TRAILING}
 use Rattle.trace.specs.Judged.{Shows, Judged}
-use Rattle.trace.proofs.Faults.{else-first, else-zero, unless-zero, same-yes, same-no, head-bad, head-whole, refused-on, refused-at}
+use Rattle.trace.proofs.Faults.{differ, else-first, else-zero, unless-zero, same-yes, same-no, head-bad, head-whole, refused-on, refused-at}
 use Rattle.trace.proofs.Records.{answerOf, answer-fits, event-fits, step-shows, shown-answer, shown-block}
 
 -- ---- heads
@@ -37,6 +39,15 @@ pub fault-first : (len kind : ℕ) (r : List ℕ) (h m : ℕ) → h ≡ headNumb
 fault-first len kind r h m e n = e ∙ sym (else-first (headNumber len kind r) m (λ z. n (e ∙ z)))
 
 -- ---- a Step
+
+-- what is shown is shown under any of its names
+shows-same : (L : Layout) (r : List ℕ) (x y : Answer) (c d : List ℕ) → x ≡ y → c ≡ d → Shows L r x c → Shows L r y d
+shows-same L r x y c d p q s =
+    record {
+      number = s .number ∙ ap (λ (z : Answer). z .number) p;
+      value = s .value ∙ ap (λ (z : Answer). z .value) p;
+      block = s .block ∙ q;
+    }
 
 module _ (L : Layout) (LL : Lawful L) (r b : List ℕ) where
   pub judged-head : (h : ℕ) (c : List ℕ) → h ≡ headNumber (stepSize L) (L .stepKind) r → (h ≡ 0 → ⊥)
@@ -62,7 +73,7 @@ module _ (L : Layout) (LL : Lawful L) (r b : List ℕ) where
     wrong n = record { number = simp (z, same-no _ _ n); block = λ w. absurd (omega arith) }
 
     -- the Step is the one that the rules give exactly where it shows their answer and their block
-    pub judged-wrong : (Shows L r (L .answer b (eventOf r)) (L .after b (eventOf r)) → ⊥) → Judged L r b WRONG-STEP c
+    judged-wrong : (Shows L r (L .answer b (eventOf r)) (L .after b (eventOf r)) → ⊥) → Judged L r b WRONG-STEP c
     judged-wrong n =
         let e : Event = eventOf r in
         let d : List ℕ = take (L .size) (drop blockAfterAt r) in
@@ -85,15 +96,14 @@ module _ (L : Layout) (LL : Lawful L) (r b : List ℕ) where
         shows ∙ (λ i. stepShowing L (eventOf r) (record { number = s .number i; value = s .value i }) (s .block i)) in
         record { number = simp (z, same-yes _ _ q); block = λ w. e }
 
--- what is shown is shown under any of its names
-pub shows-same : (L : Layout) (r : List ℕ) (x y : Answer) (c d : List ℕ) → x ≡ y → c ≡ d → Shows L r x c
-    → Shows L r y d
-shows-same L r x y c d p q s =
-    record {
-      number = s .number ∙ ap (λ (z : Answer). z .number) p;
-      value = s .value ∙ ap (λ (z : Answer). z .value) p;
-      block = s .block ∙ q;
-    }
+    -- what the step answered and left is what the rules give, and a test says whether the Step shows that
+    module _ (x : Answer) (p : x ≡ L .answer b (eventOf r)) (q : c ≡ L .after b (eventOf r)) where
+      pub judged-by : {t : Bool} → (t ≡ true) ↔ Shows L r x c
+          → (t ≡ false → Judged L r b WRONG-STEP c) × (t ≡ true → Judged L r b 0 c)
+      judged-by i = (
+        (λ f. judged-wrong (λ s. differ (sym f ∙ i .1 (shows-same L r _ x _ c (sym p) (sym q) s)))),
+        (λ t. judged-right (shows-same L r x _ c _ p q (i .0 t)) q),
+      )
 
 -- a right Step is whole
 pub step-whole : (L : Layout) (b r : List ℕ) → stepNumber L b r ≡ 0 → stepSize L ≤ length r

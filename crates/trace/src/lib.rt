@@ -2,16 +2,18 @@
 //
 // Start, Step and End each have a judgement of their own, over the rest of the trace from the record's first byte on. It
 // answers the fault's number, or ACCEPTED.
-use machine::event::Event;
-use machine::step::step_event;
-use machine::verdict::Answer;
+use machine::step::ANSWER_SIZE;
+use machine::step::replay;
 use state::place;
+use words::get_word;
 use words::word_at;
 ghost use mathlib.Core.Path.{_≡_};
 ghost use mathlib.Core.Bool.{true};
 ghost use mathlib.Core.Logic.{_↔_};
 ghost use Prim.Native.Nat.{_+_, _≤_, _<_, _^_};
 ghost use lib.ListN.{length, drop};
+ghost use Rattle.words.specs.Word.{word};
+ghost use Rattle.machine.specs.Step.{ANSWER-SIZE};
 ghost use Rattle.trace.specs.Layout.{layout01, startSize, stepSize, endSize, mostSteps};
 ghost use Rattle.trace.specs.Published.{Published};
 ghost use Rattle.trace.specs.Report.{headNumber, startNumber, stepNumber, endNumber, endReport, reportFrom, report};
@@ -64,6 +66,11 @@ pub const VALUE: usize = 20;
 
 pub const BLOCK_AFTER: usize = 24;
 
+// The words of an answer buffer.
+const ANSWER_NUMBER: usize = 0;
+
+const ANSWER_VALUE: usize = 1;
+
 // What the checker answers: a number, the place, and the Steps found right before it.
 #[repr(C)]
 pub struct Report {
@@ -102,15 +109,15 @@ fn judge_start(r: &[u8]) -> u32
     ACCEPTED
 }
 
-// Whether a whole Step shows this answer and this block after.
-fn shows(r: &[u8], answer: Answer, block: &[u8]) -> bool
-    requires { ⌜ (stepSize layout01 ≤ length (now r)) × (length (now block) ≡ layout01 .size) ⌝ }
-    ensures { λ t. ⌜ (t ≡ true) ↔ Shows layout01 (now (r .entry)) answer (now (block .entry)) ⌝ }
+// Whether a whole Step shows the answer in this buffer and this block after.
+fn shows(r: &[u8], answer: &[u8], block: &[u8]) -> bool
+    requires { ⌜ (stepSize layout01 ≤ length (now r)) × (length (now answer) ≡ ANSWER-SIZE) × (length (now block) ≡ layout01 .size) ⌝ }
+    ensures { λ t. ⌜ (t ≡ true) ↔ Shows layout01 (now (r .entry)) (record { number = word (now (answer .entry)) 0; value = word (now (answer .entry)) 1 }) (now (block .entry)) ⌝ }
 {
-    if word_at(r, NUMBER) != answer.number {
+    if word_at(r, NUMBER) != get_word(answer, ANSWER_NUMBER) {
         return false;
     }
-    if word_at(r, VALUE) != answer.value {
+    if word_at(r, VALUE) != get_word(answer, ANSWER_VALUE) {
         return false;
     }
     words::runs::same(&r[BLOCK_AFTER..STEP_SIZE as usize], block)
@@ -125,15 +132,15 @@ fn judge_step(r: &[u8], block: &mut [u8]) -> u32
     if fault != ACCEPTED {
         return fault;
     }
-    let answer = step_event(
+    let mut answer = [0u8; ANSWER_SIZE];
+    replay(
         block,
-        Event {
-            code: word_at(r, CODE),
-            a: word_at(r, A),
-            b: word_at(r, B),
-        },
+        word_at(r, CODE),
+        word_at(r, A),
+        word_at(r, B),
+        &mut answer,
     );
-    if !shows(r, answer, block) {
+    if !shows(r, &answer, block) {
         return WRONG_STEP;
     }
     ACCEPTED

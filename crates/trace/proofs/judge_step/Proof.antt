@@ -1,19 +1,78 @@
 -- Under a right head the step is taken on the event that the record names; the record is right where it shows what the
 -- step answered and left.
-use mathlib.Core.Path.{sym, ap, _∙_}
+use mathlib.Core.Path.{_≡_, refl, sym, ap, _∙_}
+use mathlib.Core.Bool.{true, false}
+use mathlib.Core.List.{List}
+use Prim.Native.Nat.{ℕ, _≤_}
 use borrow.Author.Needs.{needs}
 use borrow.Author.Tests.{not-true, not-false}
 use native.Mathlib.Omega.{arith}
 use lib.ListN.{length}
 use Rattle.machine.proofs.Laws.{length-after}
-use Rattle.machine.specs.Step.{answer, after}
-use Rattle.trace.proofs.Faults.{differ, head-whole}
-use Rattle.trace.proofs.Judging.{judged-head, judged-wrong, judged-right, shows-same, event-read}
+use Rattle.machine.proofs.Replay.{cleared, carried, read-back}
+use Rattle.machine.proofs.Stepping.{Performed}
+use Rattle.trace.proofs.Faults.{head-whole}
+use Rattle.trace.proofs.Judging.{judged-head, judged-by, event-read}
 use Rattle.trace.proofs.Lawful01.{lawful01}
 use Rattle.trace.proofs.judge_step.Statement.{statement}
 use Rattle.trace.proofs.judge_step.Tie as tie
-use Rattle.trace.specs.Layout.{layout01}
-use Rattle.words.specs.Word.{Bytes}
+use Rattle.trace.specs.Judged.{Judged}
+use Rattle.trace.specs.Layout.{layout01, stepSize}
+use Rattle.trace.specs.Report.{WRONG-STEP, headNumber, eventOf}
+
+-- the rest of the trace and the block before, seen from where the head is right
+abbrev rest : tie.Else1 → List ℕ
+rest c = c .before .before .before .before .args .r .now
+
+abbrev block : tie.Else1 → List ℕ
+block c = c .before .before .before .before .args .block .now
+
+right-head : (c : tie.Else1) → headNumber (stepSize layout01) (layout01 .stepKind) (rest c) ≡ 0
+right-head c = sym (c .before .judge-head .ensures) ∙ c .if1 .left
+
+whole : (c : tie.Else1) → stepSize layout01 ≤ length (rest c)
+whole c = head-whole (stepSize layout01) (layout01 .stepKind) (rest c) (right-head c) .3
+
+-- the same, and the block and the answer buffer that the replay leaves, seen from behind it
+abbrev headed : tie.After-replay → tie.Else1
+headed c = c .before .before .before .before .before .before
+
+abbrev left : tie.After-replay → List ℕ
+left c = c .replay .last .0
+
+abbrev answered : tie.After-replay → List ℕ
+answered c = c .replay .last .1 .1 .1 .1 .0
+
+-- the step is carried out on the event that the record names
+stepped : (c : tie.After-replay)
+    → Performed (block (headed c)) (eventOf (rest (headed c))) (c .replay .result) (left c) (answered c)
+stepped c =
+    let asked = c .before .before in
+    let e = event-read (rest (headed c)) _ _ _ (asked .before .before .word-at .ensures)
+    (asked .before .word-at2 .ensures) (asked .word-at3 .ensures) in
+    let size = headed c .before .before .before .before .pre in
+    rw e at (carried (block (headed c)) _ cleared (c .replay .ensures) size refl)
+
+abbrev replayed : tie.After-shows-arg → tie.After-replay
+replayed c = c .before .before .before .before .before
+
+-- what is judged: this Step, and what became of the block
+abbrev Judgement : tie.After-shows → ℕ → Type 0
+Judgement c n =
+    let at = replayed (c .before) in
+    Judged layout01 (rest (headed at)) (block (headed at)) n (left at)
+
+-- by whether the record shows what the step answered and left
+judged : (c : tie.After-shows)
+    → (c .shows .result ≡ false → Judgement c WRONG-STEP) × (c .shows .result ≡ true → Judgement c 0)
+judged c =
+    let at = replayed (c .before) in
+    let head = headed at in
+    let p = stepped at in
+    judged-by layout01 lawful01 (rest head) (block head)
+    (λ i. head .before .before .before .shared-slice-known .given i .fits)
+    (λ i. head .before .before .slice-known .given i .fits)
+    (right-head head) (left at) _ (read-back (block head) (eventOf (rest head)) p) (p .1 .0) (c .shows .ensures)
 
 judge-head-requires : tie.Need-judge-head-requires
 judge-head-requires c κs = search needs
@@ -22,82 +81,43 @@ returns : tie.Need-returns
 returns c = judged-head layout01 lawful01 _ _ _ _ (c .before .judge-head .ensures) (c .if1 .taken)
 
 word-at-requires : tie.Need-word-at-requires
-word-at-requires c κs =
-    let whole = c .before in
-    let z = sym (whole .before .judge-head .ensures) ∙ whole .if1 .left in
-    omega (arith, head-whole 200 2 (whole .before .before .before .before .args .r .now) z .3)
+word-at-requires c κs = omega (arith, whole (c .before))
 
 word-at-requires-2 : tie.Need-word-at-requires-2
-word-at-requires-2 c κs =
-    let whole = c .before .before in
-    let z = sym (whole .before .judge-head .ensures) ∙ whole .if1 .left in
-    omega (arith, head-whole 200 2 (whole .before .before .before .before .args .r .now) z .3)
+word-at-requires-2 c κs = omega (arith, whole (c .before .before))
 
 word-at-requires-3 : tie.Need-word-at-requires-3
-word-at-requires-3 c κs =
-    let whole = c .before .before .before in
-    let z = sym (whole .before .judge-head .ensures) ∙ whole .if1 .left in
-    omega (arith, head-whole 200 2 (whole .before .before .before .before .args .r .now) z .3)
+word-at-requires-3 c κs = omega (arith, whole (c .before .before .before))
 
-step-event-requires : tie.Need-step-event-requires
-step-event-requires c κs = search needs
+slice-aggregate-replay : tie.Need-slice-aggregate-replay
+slice-aggregate-replay c = search needs
+
+replay-requires : tie.Need-replay-requires
+replay-requires c κs = search needs
+
+slice-aggregate-shows : tie.Need-slice-aggregate-shows
+slice-aggregate-shows c = search needs
 
 shows-requires : tie.Need-shows-requires
 shows-requires c κs =
-    let stepped = c .before .before .before in
-    let whole = stepped .before .before .before .before .before in
-    let start = whole .before .before .before .before in
-    let z = sym (whole .before .judge-head .ensures) ∙ whole .if1 .left in
-    let size = ap length (stepped .step-event .ensures .1) ∙ length-after (start .args .block .now) _ ∙ start .pre in
-    (head-whole 200 2 (start .args .r .now) z .3, size)
+    let head = headed (replayed c) in
+    let p = stepped (replayed c) in (
+      whole head,
+      ap length (p .1 .1 .0),
+      ap length (p .1 .0) ∙ length-after (block head) _ ∙ head .before .before .before .before .pre,
+    )
 
 same-length : tie.Need-same-length
 same-length c = search needs
 
 returns-2 : tie.Need-returns-2
-returns-2 c =
-    let stepped = c .before .before .before .before .before in
-    let whole = stepped .before .before .before .before .before in
-    let start = whole .before .before .before .before in
-    let r = start .args .r .now in
-    let b = start .args .block .now in
-    let bytes : Bytes r = λ i. whole .before .before .before .shared-slice-known .given i .fits in
-    let block-bytes : Bytes b = λ i. whole .before .before .slice-known .given i .fits in
-    let z = sym (whole .before .judge-head .ensures) ∙ whole .if1 .left in
-    let e =
-    event-read r _ _ _ (stepped .before .before .before .word-at .ensures)
-    (stepped .before .before .word-at2 .ensures)
-    (stepped .before .word-at3 .ensures) in
-    let answered = stepped .step-event .ensures .0 ∙ ap (answer b) e in
-    let left = stepped .step-event .ensures .1 ∙ ap (after b) e in
-    judged-wrong layout01 lawful01 r b bytes block-bytes z _
-    (λ s.
-    differ
-    (sym (not-true _ (c .if2 .taken))
-    ∙ c .before .shows .ensures .1 (shows-same layout01 r _ _ _ _ (sym answered) (sym left) s)))
+returns-2 c = judged (c .before) .0 (not-true _ (c .if2 .taken))
 
 same-length-2 : tie.Need-same-length-2
 same-length-2 c = search needs
 
 returns-3 : tie.Need-returns-3
-returns-3 c =
-    let stepped = c .before .before .before .before .before in
-    let whole = stepped .before .before .before .before .before in
-    let start = whole .before .before .before .before in
-    let r = start .args .r .now in
-    let b = start .args .block .now in
-    let bytes : Bytes r = λ i. whole .before .before .before .shared-slice-known .given i .fits in
-    let block-bytes : Bytes b = λ i. whole .before .before .slice-known .given i .fits in
-    let z = sym (whole .before .judge-head .ensures) ∙ whole .if1 .left in
-    let e =
-    event-read r _ _ _ (stepped .before .before .before .word-at .ensures)
-    (stepped .before .before .word-at2 .ensures)
-    (stepped .before .word-at3 .ensures) in
-    let answered = stepped .step-event .ensures .0 ∙ ap (answer b) e in
-    let left = stepped .step-event .ensures .1 ∙ ap (after b) e in
-    judged-right layout01 lawful01 r b bytes block-bytes z _
-    (shows-same layout01 r _ _ _ _ answered left (c .before .shows .ensures .0 (not-false _ (c .if2 .left))))
-    left
+returns-3 c = judged (c .before) .1 (not-false _ (c .if2 .left))
 
 pub judge-step-spec : {M : Type 1} → statement M
 judge-step-spec =
@@ -108,7 +128,9 @@ judge-step-spec =
     word-at-requires
     word-at-requires-2
     word-at-requires-3
-    step-event-requires
+    slice-aggregate-replay
+    replay-requires
+    slice-aggregate-shows
     shows-requires
     same-length
     returns-2

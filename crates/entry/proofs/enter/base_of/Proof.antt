@@ -1,12 +1,24 @@
 -- The word that the definition chooses, by the same tests.
-use mathlib.Core.Path.{ap, _∙_}
+use mathlib.Core.Bool.{Bool, true, false}
+use mathlib.Core.List.{List}
+use mathlib.Core.Path.{_≡_, refl, ap, _∙_}
+use Prim.Native.Nat.{ℕ}
 use borrow.Author.Needs.{needs}
 use borrow.Author.Tests.{eq-eqb, ne-eqb}
 use Rattle.entry.proofs.enter.base_of.Statement.{statement}
 use Rattle.entry.proofs.enter.base_of.Tie as tie
 use Rattle.entry.specs.Enter.{vectorBase}
+use Rattle.entry.specs.Parts.{ownPlace}
 use Rattle.state.proofs.Test.{told}
+use Rattle.state.specs.Choice.{if_then_else_}
 use Rattle.state.specs.Field.{SCR-NS}
+use Rattle.state.specs.Place.{SCR, VBAR-s, VBAR-ns}
+use Rattle.words.specs.Word.{word}
+
+-- the word at the chosen place is the chosen word
+at-either : (b : List ℕ) (t : Bool) (p q : ℕ) → word b (if t then p else q) ≡ (if t then word b p else word b q)
+at-either b true p q = refl
+at-either b false p q = refl
 
 get-word-requires : tie.Need-get-word-requires
 get-word-requires c κs = search needs
@@ -20,7 +32,8 @@ get-word-requires-2 c κs = search needs
 
 returns-2 : tie.Need-returns-2
 unfolding vectorBase
-returns-2 c = rw (ne-eqb _ _ (c .before .before .before .if1 .left), eq-eqb _ _ (c .before .if2 .taken)) (c .get-word2 .ensures)
+returns-2 c =
+    rw (ne-eqb _ _ (c .before .before .before .if1 .left), eq-eqb _ _ (c .before .if2 .taken)) (c .get-word2 .ensures)
 
 sctlr-v-requires : tie.Need-sctlr-v-requires
 sctlr-v-requires c κs = search needs
@@ -28,41 +41,33 @@ sctlr-v-requires c κs = search needs
 returns-3 : tie.Need-returns-3
 unfolding vectorBase
 returns-3 c =
-    rw (ne-eqb _ _ (c .before .before .before .before .if1 .left), ne-eqb _ _ (c .before .before .if2 .left), told (c .before .sctlr-v .ensures) (c .if3 .taken))
+    let w = c .before .before in
+    rw (
+      ne-eqb _ _ (w .before .before .if1 .left),
+      ne-eqb _ _ (w .if2 .left),
+      told (c .before .sctlr-v .ensures) (c .if3 .taken),
+    )
+
+own-place-requires : tie.Need-own-place-requires
+own-place-requires c κs = search needs
 
 get-word-requires-3 : tie.Need-get-word-requires-3
 get-word-requires-3 c κs = search needs
 
-scr-ns-requires : tie.Need-scr-ns-requires
-scr-ns-requires c κs = search needs
-
-get-word-requires-4 : tie.Need-get-word-requires-4
-get-word-requires-4 c κs = search needs
-
 returns-4 : tie.Need-returns-4
 unfolding vectorBase
 returns-4 c =
+    let w = c .before .before .before .before in
+    let start = w .before .before .before .before .before in
+    let block = start .args .block .now in
     rw (
-      ne-eqb _ _ (c .before .before .before .before .before .before .before .before .if1 .left),
-      ne-eqb _ _ (c .before .before .before .before .before .before .if2 .left),
-      told (c .before .before .before .before .before .sctlr-v .ensures) (c .before .before .before .before .if3 .left),
-      told (c .before .before .scr-ns .ensures ∙ ap SCR-NS (c .before .before .before .get-word3 .ensures)) (c .before .if4 .taken),
+      ne-eqb _ _ (w .before .before .if1 .left),
+      ne-eqb _ _ (w .if2 .left),
+      told (c .before .before .before .sctlr-v .ensures) (c .before .before .if3 .left),
     )
-    (c .get-word4 .ensures)
-
-get-word-requires-5 : tie.Need-get-word-requires-5
-get-word-requires-5 c κs = search needs
-
-returns-5 : tie.Need-returns-5
-unfolding vectorBase
-returns-5 c =
-    rw (
-      ne-eqb _ _ (c .before .before .before .before .before .before .before .before .if1 .left),
-      ne-eqb _ _ (c .before .before .before .before .before .before .if2 .left),
-      told (c .before .before .before .before .before .sctlr-v .ensures) (c .before .before .before .before .if3 .left),
-      told (c .before .before .scr-ns .ensures ∙ ap SCR-NS (c .before .before .before .get-word3 .ensures)) (c .before .if4 .left),
-    )
-    (c .get-word5 .ensures)
+    (c .get-word3 .ensures
+    ∙ ap (word block) (c .before .own-place .ensures .0 ∙ ap (ownPlace VBAR-s) (start .pre .1))
+    ∙ at-either block (SCR-NS (word block SCR)) VBAR-ns VBAR-s)
 
 pub base-of-spec : {M : Type 1} → statement M
 base-of-spec =
@@ -74,9 +79,6 @@ base-of-spec =
     returns-2
     sctlr-v-requires
     returns-3
+    own-place-requires
     get-word-requires-3
-    scr-ns-requires
-    get-word-requires-4
-    returns-4
-    get-word-requires-5
-    returns-5)
+    returns-4)

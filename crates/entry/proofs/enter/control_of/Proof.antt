@@ -1,14 +1,12 @@
 -- The place that the definition chooses, by the same tests.
 use mathlib.Core.Path.{ap, _∙_}
-use mathlib.Core.Path.{sym, _∙_}
 use borrow.Author.Needs.{needs}
 use borrow.Author.Tests.{eq-eqb, ne-eqb}
 use Rattle.entry.proofs.enter.control_of.Statement.{statement}
 use Rattle.entry.proofs.enter.control_of.Tie as tie
-use Rattle.state.proofs.Test.{told}
-use Rattle.state.specs.Field.{SCR-NS}
-
--- The place that the definition chooses, by the same tests.
+use Rattle.entry.specs.Parts.{ownPlace}
+use Rattle.state.specs.Place.{SCTLR-s}
+use Rattle.words.specs.Word.{word}
 
 get-word-requires : tie.Need-get-word-requires
 get-word-requires c κs = search needs
@@ -20,37 +18,22 @@ get-word-requires-2 : tie.Need-get-word-requires-2
 get-word-requires-2 c κs = search needs
 
 returns-2 : tie.Need-returns-2
-returns-2 c = rw (ne-eqb _ _ (c .before .before .before .if1 .left), eq-eqb _ _ (c .before .if2 .taken)) (c .get-word2 .ensures)
+returns-2 c =
+    rw (ne-eqb _ _ (c .before .before .before .if1 .left), eq-eqb _ _ (c .before .if2 .taken)) (c .get-word2 .ensures)
+
+own-place-requires : tie.Need-own-place-requires
+own-place-requires c κs = search needs
 
 get-word-requires-3 : tie.Need-get-word-requires-3
 get-word-requires-3 c κs = search needs
 
-scr-ns-requires : tie.Need-scr-ns-requires
-scr-ns-requires c κs = search needs
-
-get-word-requires-4 : tie.Need-get-word-requires-4
-get-word-requires-4 c κs = search needs
-
 returns-3 : tie.Need-returns-3
 returns-3 c =
-    rw (
-      ne-eqb _ _ (c .before .before .before .before .before .before .if1 .left),
-      ne-eqb _ _ (c .before .before .before .before .if2 .left),
-      told (c .before .before .scr-ns .ensures ∙ ap SCR-NS (c .before .before .before .get-word3 .ensures)) (c .before .if3 .taken),
-    )
-    (c .get-word4 .ensures)
-
-get-word-requires-5 : tie.Need-get-word-requires-5
-get-word-requires-5 c κs = search needs
-
-returns-4 : tie.Need-returns-4
-returns-4 c =
-    rw (
-      ne-eqb _ _ (c .before .before .before .before .before .before .if1 .left),
-      ne-eqb _ _ (c .before .before .before .before .if2 .left),
-      told (c .before .before .scr-ns .ensures ∙ ap SCR-NS (c .before .before .before .get-word3 .ensures)) (c .before .if3 .left),
-    )
-    (c .get-word5 .ensures)
+    let w = c .before .before in
+    let start = w .before .before .before .before .before in
+    rw (ne-eqb _ _ (w .before .before .if1 .left), ne-eqb _ _ (w .if2 .left))
+    (c .get-word3 .ensures
+    ∙ ap (word (start .args .block .now)) (c .before .own-place .ensures .0 ∙ ap (ownPlace SCTLR-s) (start .pre .1)))
 
 pub control-of-spec : {M : Type 1} → statement M
 control-of-spec =
@@ -60,9 +43,6 @@ control-of-spec =
     returns
     get-word-requires-2
     returns-2
+    own-place-requires
     get-word-requires-3
-    scr-ns-requires
-    get-word-requires-4
-    returns-3
-    get-word-requires-5
-    returns-4)
+    returns-3)

@@ -1,67 +1,69 @@
--- Three flags, each moved to its bit.
-use mathlib.Core.Bool.{Bool, true, false, not}
-use mathlib.Core.Path.{_≡_, ap, _∙_}
-use Prim.Native.Nat.{ℕ, _+_, _*_, _<_}
-use borrow.Author.Needs.{needs}
+-- Each arm is a row of the masks, by the three bits of SCR.
+use mathlib.Core.Bool.{not}
+use mathlib.Core.Path.{_≡_}
+use Prim.Native.Nat.{ℕ, _+_, _/_, _%_, _≤_}
+use lib.Dec.{eqb, lit<}
 use native.Mathlib.Omega.{arith}
 use Rattle.entry.proofs.enter.hyp_sets.Statement.{statement}
 use Rattle.entry.proofs.enter.hyp_sets.Tie as tie
-use Rattle.state.proofs.Laws.{flag-moved}
+use Rattle.entry.specs.Parts.{setsNumber}
 use Rattle.state.specs.Field.{flag}
+use Rattle.state.specs.Mode.{HYP}
 
-three : {x y z : ℕ} {p q r a i f : Bool} → p ≡ a → q ≡ i → r ≡ f → x ≡ flag 0 (not p) → y ≡ flag 0 (not q) → z ≡ flag 0 (not r)
-    → x * 4 + y * 2 + z ≡ flag 2 (not a) + flag 1 (not i) + flag 0 (not f)
-three {a} {i} {f} d e g u v w = cc (flag-moved 2 (not a), flag-moved 1 (not i))
+-- the row of the three bits EA FIQ IRQ, as a number
+abbrev row : ℕ → ℕ
+row k = flag 2 (not (eqb (k / 4 % 2) 1)) + flag 1 (not (eqb (k % 2) 1)) + flag 0 (not (eqb (k / 2 % 2) 1))
 
-scr-ea-requires : tie.Need-scr-ea-requires
-scr-ea-requires c κs = search needs
+module _ (scr : ℕ) {k : ℕ} (e : scr / 2 % 8 ≡ k) where
+  ea : scr / 8 % 2 ≡ k / 4 % 2
+  ea = omega arith
 
-as-number-requires : tie.Need-as-number-requires
-as-number-requires c κs = search needs
+  irq : scr / 2 % 2 ≡ k % 2
+  irq = omega arith
 
-mul-result : tie.Need-mul-result
-mul-result c = omega arith
+  fiq : scr / 4 % 2 ≡ k / 2 % 2
+  fiq = omega arith
 
-scr-irq-requires : tie.Need-scr-irq-requires
-scr-irq-requires c κs = search needs
+  is-row : row k ≡ setsNumber HYP scr
+  is-row = rw (ea, irq, fiq)
 
-as-number-requires-2 : tie.Need-as-number-requires-2
-as-number-requires-2 c κs = search needs
+-- what is k or more, and not k, is more
+past : {x k : ℕ} → k ≤ x → (x ≡ k → ⊥) → k + 1 ≤ x
+past h n = omega arith
 
-mul-result-2 : tie.Need-mul-result-2
-mul-result-2 c = omega arith
-
-add-result : tie.Need-add-result
-add-result c = omega arith
-
-scr-fiq-requires : tie.Need-scr-fiq-requires
-scr-fiq-requires c κs = search needs
-
-as-number-requires-3 : tie.Need-as-number-requires-3
-as-number-requires-3 c κs = search needs
-
-add-result-2 : tie.Need-add-result-2
-add-result-2 c = omega arith
+seven : (n : ℕ) → 7 ≤ n % 8 → n % 8 ≡ 7
+seven n h = omega arith
 
 returns : tie.Need-returns
-returns c = (
-  three (c .before .before .before .before .before .scr-ea .ensures) (c .before .before .before .scr-irq .ensures) (c .before .scr-fiq .ensures) (c .before .before .before .before .as-number .ensures .0) (c .before .before .as-number2 .ensures .0)
-      (c .as-number3 .ensures .0),
-  omega arith,
-)
+returns c = (is-row _ (c .match .keys1), lit< tt)
+
+returns-2 : tie.Need-returns-2
+returns-2 c = (is-row _ (c .match .keys2), lit< tt)
+
+returns-3 : tie.Need-returns-3
+returns-3 c = (is-row _ (c .match .keys3), lit< tt)
+
+returns-4 : tie.Need-returns-4
+returns-4 c = (is-row _ (c .match .keys4), lit< tt)
+
+returns-5 : tie.Need-returns-5
+returns-5 c = (is-row _ (c .match .keys5), lit< tt)
+
+returns-6 : tie.Need-returns-6
+returns-6 c = (is-row _ (c .match .keys6), lit< tt)
+
+returns-7 : tie.Need-returns-7
+returns-7 c = (is-row _ (c .match .keys7), lit< tt)
+
+returns-8 : tie.Need-returns-8
+returns-8 c =
+    let k = c .match .rest in
+    let n = c .before .args .scr / 2 in
+    let two : 2 ≤ n % 8 = past (past (omega arith) (k .0 .0 .0 .0 .0 .0 .1)) (k .0 .0 .0 .0 .0 .1) in
+    let five : 5 ≤ n % 8 = past (past (past two (k .0 .0 .0 .0 .1)) (k .0 .0 .0 .1)) (k .0 .0 .1) in
+    (is-row _ (seven n (past (past five (k .0 .1)) (k .1))), lit< tt)
 
 pub hyp-sets-spec : {M : Type 1} → statement M
 hyp-sets-spec =
     tie.close
-    (tie.spec
-    scr-ea-requires
-    as-number-requires
-    mul-result
-    scr-irq-requires
-    as-number-requires-2
-    mul-result-2
-    add-result
-    scr-fiq-requires
-    as-number-requires-3
-    add-result-2
-    returns)
+    (tie.spec returns returns-2 returns-3 returns-4 returns-5 returns-6 returns-7 returns-8)

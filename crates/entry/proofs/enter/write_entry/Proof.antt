@@ -33,9 +33,6 @@ whole b cpsr to offset link c k a v p q e f g w h = cc
 control-of-requires : tie.Need-control-of-requires
 control-of-requires c κs = search needs
 
-get-word-requires : tie.Need-get-word-requires
-get-word-requires c κs = search needs
-
 cpsr-after-requires : tie.Need-cpsr-after-requires
 cpsr-after-requires c κs = search needs
 
@@ -50,7 +47,8 @@ spsr-place-requires c κs = search needs
 
 put-word-requires : tie.Need-put-word-requires
 put-word-requires c κs =
-    let p = spsr-inside (c .before .before .before .before .before .before .before .before .before .before .args .to) (c .before .before .before .before .before .before .before .before .before .before .pre .1) in
+    let start = c .before .before .before .before .before .before .before .before in
+    let p = spsr-inside (start .args .to) (start .pre .1) in
     let e = c .spsr-place .ensures in
     omega arith
 
@@ -59,7 +57,9 @@ lr-place-requires c κs = search needs
 
 put-word-requires-2 : tie.Need-put-word-requires-2
 put-word-requires-2 c κs =
-    let p = lr-inside (c .before .before .before .before .before .before .before .before .before .before .before .before .before .before .before .args .to) (c .before .before .before .before .before .before .before .before .before .before .before .before .before .before .before .pre .1) in
+    let w = c .before .before .before .before .before in
+    let start = w .before .before .before .before .before .before .before .before in
+    let p = lr-inside (start .args .to) (start .pre .1) in
     let e = c .lr-place .ensures in
     omega arith
 
@@ -75,18 +75,25 @@ put-word-requires-4 c κs = search needs
 same-length : tie.Need-same-length
 same-length c = search needs
 
+-- the places where the four words are put, the last first, and where the first one's parts were found
 returns : tie.Need-returns
 returns c =
-    whole _ _ _ _ _ (c .before .before .before .before .before .before .before .before .before .before .before .before .before .before .before .before .before .before .before .before .before .before .before .before .control-of .ensures) (c .before .before .before .before .before .before .before .before .before .before .before .before .before .before .before .before .before .before .before .before .before .before .get-word .ensures) (c .before .before .before .before .before .before .before .before .before .before .before .before .before .before .before .before .before .before .before .before .before .cpsr-after .ensures) (c .before .before .before .before .before .before .before .before .before .before .before .before .before .before .before .before .before .before .before .base-of .ensures)
-    (c .before .before .before .before .before .before .before .before .before .before .before .before .before .before .before .before .before .spsr-place .ensures) (c .before .before .before .before .before .before .before .before .before .before .before .before .lr-place .ensures) (c .before .before .before .before .before .before .before .before .before .before .before .before .before .before .before .before .put-word .ensures) (c .before .before .before .before .before .before .before .before .before .before .before .put-word2 .ensures) (c .before .before .before .before .before .before .before .put-word3 .ensures)
-    (c .before .before .before .wrapping-add-u32 .ensures) (c .before .before .put-word4 .ensures)
+    let w4 = c .before .before in
+    let w3 = w4 .before .before .before .before .before in
+    let w2 = w3 .before .before .before .before in
+    let w1 = w2 .before .before .before .before .before in
+    let base = w1 .before .before .before in
+    let after = base .before .before in
+    let start = after .before .before .before .before in
+    whole _ _ _ _ _ (after .before .control-of .ensures) (start .pre .2) (after .cpsr-after .ensures)
+    (base .base-of .ensures) (w1 .before .spsr-place .ensures) (w2 .before .lr-place .ensures) (w1 .put-word .ensures)
+    (w2 .put-word2 .ensures) (w3 .put-word3 .ensures) (w4 .before .wrapping-add-u32 .ensures) (w4 .put-word4 .ensures)
 
 pub write-entry-spec : {M : Type 1} → statement M
 write-entry-spec =
     tie.close
     (tie.spec
     control-of-requires
-    get-word-requires
     cpsr-after-requires
     base-of-requires
     mul-start

@@ -1,33 +1,73 @@
--- The definition's own test.
+-- Each way through the tests is one through the definition's; Monitor is not User, so NS and the mode decide.
+use mathlib.Core.Bool.{Bool, true, false, _&&_}
+use mathlib.Core.Path.{_≡_, refl}
 use borrow.Author.Needs.{needs}
 use Rattle.entry.proofs.route.general_to_hyp.Statement.{statement}
 use Rattle.entry.proofs.route.general_to_hyp.Tie as tie
+use Rattle.state.proofs.Laws.{ns-user}
+use Rattle.state.proofs.Test.{told}
+use Rattle.state.specs.Field.{SCR-NS, HCR-TGE}
+
+not-user : (ns tge : Bool) → false ≡ ((ns && false) && tge)
+not-user true tge = refl
+not-user false tge = refl
 
 is-hyp-requires : tie.Need-is-hyp-requires
 is-hyp-requires c κs = search needs
 
-is-ns-user-requires : tie.Need-is-ns-user-requires
-is-ns-user-requires c κs = search needs
+returns : tie.Need-returns
+returns c = rw (told (c .before .is-hyp .ensures) (c .if1 .taken))
+
+is-user-requires : tie.Need-is-user-requires
+is-user-requires c κs = search needs
+
+scr-ns-requires : tie.Need-scr-ns-requires
+scr-ns-requires c κs = search needs
 
 hcr-tge-requires : tie.Need-hcr-tge-requires
 hcr-tge-requires c κs = search needs
 
-both-requires : tie.Need-both-requires
-both-requires c κs = search needs
+returns-2 : tie.Need-returns-2
+returns-2 c =
+    let w = c .before .before .before in
+    let a = w .before .before .before .before .args in
+    rw (
+      told (w .before .before .before .is-hyp .ensures) (w .before .before .if1 .left),
+      ns-user (a .cpsr) (a .scr),
+      told (c .before .before .scr-ns .ensures) (c .before .if3 .taken),
+      told (w .before .is-user .ensures) (w .if2 .taken),
+    )
+    (c .hcr-tge .ensures)
 
-either-requires : tie.Need-either-requires
-either-requires c κs = search needs
+returns-3 : tie.Need-returns-3
+returns-3 c =
+    let w = c .before .before in
+    let a = w .before .before .before .before .args in
+    rw (
+      told (w .before .before .before .is-hyp .ensures) (w .before .before .if1 .left),
+      ns-user (a .cpsr) (a .scr),
+      told (c .before .scr-ns .ensures) (c .if3 .left),
+    )
 
-returns : tie.Need-returns
-returns c = cc
+returns-4 : tie.Need-returns-4
+returns-4 c =
+    let a = c .before .before .before .before .args in
+    rw (
+      told (c .before .before .before .is-hyp .ensures) (c .before .before .if1 .left),
+      ns-user (a .cpsr) (a .scr),
+      told (c .before .is-user .ensures) (c .if2 .left),
+    )
+    (not-user (SCR-NS (a .scr)) (HCR-TGE (a .hcr)))
 
 pub general-to-hyp-spec : {M : Type 1} → statement M
 general-to-hyp-spec =
     tie.close
     (tie.spec
     is-hyp-requires
-    is-ns-user-requires
+    returns
+    is-user-requires
+    scr-ns-requires
     hcr-tge-requires
-    both-requires
-    either-requires
-    returns)
+    returns-2
+    returns-3
+    returns-4)

@@ -1,0 +1,57 @@
+-- NS, then TSC, then the mode.
+use Prim.Native.Nat.{ℕ}
+use Rattle.entry.proofs.route.is_trapped.Statement.{statement}
+use Rattle.entry.proofs.route.is_trapped.Tie as tie
+use Rattle.state.proofs.Laws.{ns-el1}
+use Rattle.state.proofs.Test.{told-not, told-still}
+use Rattle.state.specs.Field.{mode-field, SCR-NS, HCR-TSC}
+use Rattle.state.specs.Mode.{el1}
+use Rattle.state.specs.State.{nsEl1}
+use borrow.Author.Needs.{needs}
+use mathlib.Core.Bool.{Bool, true, false, _&&_}
+use mathlib.Core.Path.{_≡_, refl, _∙_}
+
+and-false : (x : Bool) → false ≡ (x && false)
+and-false true = refl
+and-false false = refl
+
+and-true : (x : Bool) → x ≡ (x && true)
+and-true true = refl
+and-true false = refl
+
+module _ (cpsr scr hcr : ℕ) where
+  not-ns : SCR-NS scr ≡ false → false ≡ (nsEl1 cpsr scr && HCR-TSC hcr)
+  not-ns h = rw (ns-el1 cpsr scr, h)
+
+  not-tsc : HCR-TSC hcr ≡ false → false ≡ (nsEl1 cpsr scr && HCR-TSC hcr)
+  not-tsc h = rw h (and-false (nsEl1 cpsr scr))
+
+  by-mode : {r : Bool} → SCR-NS scr ≡ true → HCR-TSC hcr ≡ true → r ≡ el1 (mode-field cpsr) → r ≡ (nsEl1 cpsr scr && HCR-TSC hcr)
+  by-mode h k e = e ∙ rw (ns-el1 cpsr scr, h, k) (and-true (el1 (mode-field cpsr)))
+
+scr-ns-requires : tie.Need-scr-ns-requires
+scr-ns-requires c κs = search needs
+
+returns : tie.Need-returns
+returns c =
+    not-ns (c .before .before .args .cpsr) (c .before .before .args .scr) (c .before .before .args .hcr) (told-not (c .before .scr-ns .ensures) (c .if1 .taken))
+
+hcr-tsc-requires : tie.Need-hcr-tsc-requires
+hcr-tsc-requires c κs = search needs
+
+returns-2 : tie.Need-returns-2
+returns-2 c =
+    not-tsc (c .before .before .before .before .args .cpsr) (c .before .before .before .before .args .scr) (c .before .before .before .before .args .hcr) (told-not (c .before .hcr-tsc .ensures) (c .if2 .taken))
+
+is-el1-requires : tie.Need-is-el1-requires
+is-el1-requires c κs = search needs
+
+returns-3 : tie.Need-returns-3
+returns-3 c =
+    by-mode (c .before .before .before .before .before .args .cpsr) (c .before .before .before .before .before .args .scr) (c .before .before .before .before .before .args .hcr) (told-still (c .before .before .before .before .scr-ns .ensures) (c .before .before .before .if1 .left))
+    (told-still (c .before .before .hcr-tsc .ensures) (c .before .if2 .left)) (c .is-el1 .ensures)
+
+pub is-trapped-spec : {M : Type 1} → statement M
+is-trapped-spec =
+    tie.close
+    (tie.spec scr-ns-requires returns hcr-tsc-requires returns-2 is-el1-requires returns-3)

@@ -1,0 +1,52 @@
+-- The tests in the definition's order.
+use Prim.Native.Nat.{ℕ}
+use Rattle.entry.proofs.route.lacks_stage2.Statement.{statement}
+use Rattle.entry.proofs.route.lacks_stage2.Tie as tie
+use Rattle.entry.specs.Code.{stage2}
+use Rattle.state.proofs.Test.{told, told-not, told-still}
+use Rattle.state.specs.Choice.{_is_}
+use Rattle.state.specs.Field.{mode-field}
+use Rattle.state.specs.Mode.{HYP}
+use Rattle.state.specs.State.{secure}
+use borrow.Author.Needs.{needs}
+use mathlib.Core.Bool.{Bool, true, false, _&&_, _||_}
+use mathlib.Core.Path.{_≡_}
+
+module _ (a cpsr scr : ℕ) where
+  abbrev Lacks : Bool
+  Lacks = stage2 a && (secure cpsr scr || mode-field cpsr is HYP)
+
+  no-stage2 : stage2 a ≡ false → false ≡ Lacks
+  no-stage2 h = rw h
+
+  in-secure : stage2 a ≡ true → secure cpsr scr ≡ true → true ≡ Lacks
+  in-secure h k = rw (h, k)
+
+  by-mode : {r : Bool} → stage2 a ≡ true → secure cpsr scr ≡ false → r ≡ (mode-field cpsr is HYP) → r ≡ Lacks
+  by-mode h k e = rw (h, k) e
+
+is-stage2-requires : tie.Need-is-stage2-requires
+is-stage2-requires c κs = search needs
+
+returns : tie.Need-returns
+returns c =
+    no-stage2 (c .before .before .args .a) (c .before .before .args .cpsr) (c .before .before .args .scr) (told-not (c .before .is-stage2 .ensures) (c .if1 .taken))
+
+is-secure-requires : tie.Need-is-secure-requires
+is-secure-requires c κs = search needs
+
+returns-2 : tie.Need-returns-2
+returns-2 c =
+    in-secure (c .before .before .before .before .args .a) (c .before .before .before .before .args .cpsr) (c .before .before .before .before .args .scr) (told-still (c .before .before .before .is-stage2 .ensures) (c .before .before .if1 .left)) (told (c .before .is-secure .ensures) (c .if2 .taken))
+
+is-hyp-requires : tie.Need-is-hyp-requires
+is-hyp-requires c κs = search needs
+
+returns-3 : tie.Need-returns-3
+returns-3 c =
+    by-mode (c .before .before .before .before .before .args .a) (c .before .before .before .before .before .args .cpsr) (c .before .before .before .before .before .args .scr) (told-still (c .before .before .before .before .is-stage2 .ensures) (c .before .before .before .if1 .left)) (told (c .before .before .is-secure .ensures) (c .before .if2 .left)) (c .is-hyp .ensures)
+
+pub lacks-stage2-spec : {M : Type 1} → statement M
+lacks-stage2-spec =
+    tie.close
+    (tie.spec is-stage2-requires returns is-secure-requires returns-2 is-hyp-requires returns-3)

@@ -1,0 +1,118 @@
+-- Not from User or Secure, else taken to Hyp.
+use Prim.Native.Nat.{_<_, _^_}
+use Rattle.entry.proofs.Targets.{listed}
+use Rattle.entry.proofs.Ways.{hvc-not-here, hvc-taken}
+use Rattle.entry.specs.Code.{HVC}
+use Rattle.entry.specs.Route.{offsetTo}
+use Rattle.machine.proofs.Carrying.{same-action, refused}
+use Rattle.machine.proofs.Deciding.{bad-event}
+use Rattle.machine.proofs.Routing.{not-here, sent, first-of-two, second-of-two, neither}
+use Rattle.machine.proofs.synchronous.hvc.Statement.{statement}
+use Rattle.machine.proofs.synchronous.hvc.Tie as tie
+use Rattle.machine.specs.Event.{badEvent}
+use Rattle.state.proofs.Test.{told}
+use Rattle.state.specs.Choice.{_is_}
+use Rattle.state.specs.Field.{mode-field}
+use Rattle.state.specs.Mode.{USER, HYP}
+use Rattle.state.specs.Number.{BAD-EVENT}
+use Rattle.state.specs.Number.{NOT-HERE}
+use Rattle.state.specs.State.{secure}
+use borrow.Author.Needs.{needs}
+use lib.Dec.{lit<}
+use mathlib.Core.Path.{refl}
+
+beyond-requires : tie.Need-beyond-requires
+beyond-requires c κs = search needs
+
+refuse-requires : tie.Need-refuse-requires
+refuse-requires c κs = search needs
+
+same-length : tie.Need-same-length
+same-length c = search needs
+
+returns : tie.Need-returns
+unfolding badEvent
+returns c =
+    refused _ BAD-EVENT (bad-event _ _ _ (c .before .before .before .before .before .before .before .before .pre .0 .0) (c .before .before .before .before .before .before .before .before .pre .1) HVC (told (c .before .before .before .before .before .beyond .ensures) (c .before .before .before .before .if1 .taken))) (c .before .before .refuse .ensures)
+
+is-user-requires : tie.Need-is-user-requires
+is-user-requires c κs = search needs
+
+refuse-requires-2 : tie.Need-refuse-requires-2
+refuse-requires-2 c κs = search needs
+
+same-length-2 : tie.Need-same-length-2
+same-length-2 c = search needs
+
+returns-2 : tie.Need-returns-2
+unfolding badEvent
+returns-2 c =
+    refused _ NOT-HERE
+    (not-here _ HVC _ _ (refl, refl, refl, refl, refl) (c .before .before .before .before .before .before .before .before .before .before .pre .0 .0) (c .before .before .before .before .before .before .before .before .before .before .pre .1) (told (c .before .before .before .before .before .before .before .beyond .ensures) (c .before .before .before .before .before .before .if1 .left)) (c .before .before .before .before .before .before .before .before .before .before .pre .0 .2) (c .before .before .before .before .before .before .before .before .before .before .pre .0 .3)
+    (hvc-not-here _ _ _ _ _ (first-of-two (mode-field (c .before .before .before .before .before .before .before .before .before .before .args .cpsr) is USER) (secure (c .before .before .before .before .before .before .before .before .before .before .args .cpsr) (c .before .before .before .before .before .before .before .before .before .before .args .scr)) (told (c .before .before .before .before .before .is-user .ensures) (c .before .before .before .before .if2 .taken)))))
+    (c .before .before .refuse2 .ensures)
+
+is-secure-requires : tie.Need-is-secure-requires
+is-secure-requires c κs = search needs
+
+refuse-requires-3 : tie.Need-refuse-requires-3
+refuse-requires-3 c κs = search needs
+
+same-length-3 : tie.Need-same-length-3
+same-length-3 c = search needs
+
+returns-3 : tie.Need-returns-3
+unfolding badEvent
+returns-3 c =
+    refused _ NOT-HERE
+    (not-here _ HVC _ _ (refl, refl, refl, refl, refl) (c .before .before .before .before .before .before .before .before .before .before .before .before .pre .0 .0) (c .before .before .before .before .before .before .before .before .before .before .before .before .pre .1) (told (c .before .before .before .before .before .before .before .before .before .beyond .ensures) (c .before .before .before .before .before .before .before .before .if1 .left)) (c .before .before .before .before .before .before .before .before .before .before .before .before .pre .0 .2) (c .before .before .before .before .before .before .before .before .before .before .before .before .pre .0 .3)
+    (hvc-not-here _ _ _ _ _ (second-of-two (mode-field (c .before .before .before .before .before .before .before .before .before .before .before .before .args .cpsr) is USER) (secure (c .before .before .before .before .before .before .before .before .before .before .before .before .args .cpsr) (c .before .before .before .before .before .before .before .before .before .before .before .before .args .scr)) (told (c .before .before .before .before .before .is-secure .ensures) (c .before .before .before .before .if3 .taken)))))
+    (c .before .before .refuse3 .ensures)
+
+get-word-requires : tie.Need-get-word-requires
+get-word-requires c κs = search needs
+
+wrapping-add-u32-requires : tie.Need-wrapping-add-u32-requires
+wrapping-add-u32-requires c κs = search needs
+
+take-to-hyp-requires : tie.Need-take-to-hyp-requires
+take-to-hyp-requires c κs = search needs
+
+same-length-4 : tie.Need-same-length-4
+same-length-4 c = search needs
+
+same-length-5 : tie.Need-same-length-5
+same-length-5 c = search needs
+
+returns-4 : tie.Need-returns-4
+unfolding badEvent
+returns-4 c =
+    let f : c .before .before .before .before .before .before .before .before .get-word .result < 2 ^ 32 = search needs in
+    same-action _
+    (sent _ HVC _ _ (refl, refl, refl, refl, refl) (c .before .before .before .before .before .before .before .before .before .before .before .before .before .before .before .before .before .before .pre .0 .0) (c .before .before .before .before .before .before .before .before .before .before .before .before .before .before .before .before .before .before .pre .1) (told (c .before .before .before .before .before .before .before .before .before .before .before .before .before .before .before .beyond .ensures) (c .before .before .before .before .before .before .before .before .before .before .before .before .before .before .if1 .left)) HYP (offsetTo HYP (mode-field (c .before .before .before .before .before .before .before .before .before .before .before .before .before .before .before .before .before .before .args .cpsr)) 0x08) (c .before .before .before .before .before .before .before .before .before .before .before .before .before .before .before .before .before .before .pre .0 .2) (c .before .before .before .before .before .before .before .before .before .before .before .before .before .before .before .before .before .before .pre .0 .3) refl (c .before .before .before .before .before .before .before .before .get-word .ensures) (c .before .before .before .before .before .before .before .wrapping-add-u32 .ensures)
+    (hvc-taken _ _ _ _ _ f
+    (neither (mode-field (c .before .before .before .before .before .before .before .before .before .before .before .before .before .before .before .before .before .before .args .cpsr) is USER) (secure (c .before .before .before .before .before .before .before .before .before .before .before .before .before .before .before .before .before .before .args .cpsr) (c .before .before .before .before .before .before .before .before .before .before .before .before .before .before .before .before .before .before .args .scr)) (told (c .before .before .before .before .before .before .before .before .before .before .before .before .before .is-user .ensures) (c .before .before .before .before .before .before .before .before .before .before .before .before .if2 .left)) (told (c .before .before .before .before .before .before .before .before .before .before .before .is-secure .ensures) (c .before .before .before .before .before .before .before .before .before .before .if3 .left)))))
+    (c .before .before .before .before .take-to-hyp .ensures)
+
+pub hvc-spec : {M : Type 1} → statement M
+hvc-spec =
+    tie.close
+    (tie.spec
+    beyond-requires
+    refuse-requires
+    same-length
+    returns
+    is-user-requires
+    refuse-requires-2
+    same-length-2
+    returns-2
+    is-secure-requires
+    refuse-requires-3
+    same-length-3
+    returns-3
+    get-word-requires
+    wrapping-add-u32-requires
+    take-to-hyp-requires
+    same-length-4
+    same-length-5
+    returns-4)

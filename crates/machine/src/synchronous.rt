@@ -1,0 +1,319 @@
+// The synchronous events (document 01, "Routing"), on a good block: each tests its operands, asks only what its own routing
+// asks, and enters at once, so that its target is known where the entry is compiled.
+ghost use mathlib.Core.Path.{_≡_};
+ghost use Rattle.entry.specs.Code.{
+  UNDEFINED-INSTRUCTION,
+  SVC,
+  SMC,
+  HVC,
+  PREFETCH-ABORT,
+  DATA-ABORT,
+  HYP-TRAP,
+  MONITOR-TRAP,
+};
+ghost use Rattle.entry.specs.Parts.{abortWay};
+ghost use Rattle.interrupts.specs.declared.exception.Exception.the-variants.{Synchronous};
+ghost use Rattle.machine.specs.Parts.{Lent, Ready, Carried, abortMore};
+ghost use Rattle.machine.specs.Step.{takenBy, action};
+ghost use Rattle.words.specs.Word.{word};
+ghost use Rattle.state.specs.Place.{PC, HCR};
+ghost use Prim.Native.Nat.{_<_};
+use crate::answer::refuse;
+use crate::event::beyond;
+use crate::taking::take;
+use crate::taking::take_to_hyp;
+use entry::offset;
+use entry::route::general_to_hyp;
+use entry::route::is_external;
+use entry::route::is_stage2;
+use entry::route::is_trapped;
+use entry::route::lacks_stage2;
+use entry::route::narrow_of;
+use interrupts::exception::Exception;
+use state::field::scr_ea;
+use state::mode;
+use state::number;
+use state::place;
+use state::state::both;
+use state::state::is_hyp;
+use state::state::is_monitor;
+use state::state::is_secure;
+use state::state::is_user;
+use std::num::wrapping_add_u32;
+use words::get_word;
+
+pub(crate) fn undefined_instruction(
+    block: &mut [u8],
+    cpsr: u32,
+    scr: u32,
+    a: u32,
+    b: u32,
+    buffer: &mut [u8],
+) -> u32
+    requires { ⌜ Ready (now block) (now buffer) cpsr scr ⌝ }
+    ensures { λ r. ⌜ Carried (now (block .entry)) (action (now (block .entry)) (record { code = UNDEFINED-INSTRUCTION; a = a; b = b })) r (now (block .exit)) (now (buffer .exit)) ⌝ }
+{
+    if beyond(a, 1, b) {
+        return refuse(buffer, number::BAD_EVENT);
+    }
+    let pc = get_word(block, place::PC);
+    if general_to_hyp(cpsr, scr, get_word(block, place::HCR)) {
+        return take_to_hyp(
+            block,
+            cpsr,
+            scr,
+            Exception::Synchronous,
+            offset::UNDEFINED,
+            pc,
+            buffer,
+        );
+    }
+    let link = wrapping_add_u32(pc, narrow_of(cpsr));
+    take(
+        block,
+        cpsr,
+        scr,
+        Exception::Synchronous,
+        mode::UNDEFINED,
+        offset::UNDEFINED,
+        link,
+        buffer,
+    )
+}
+
+pub(crate) fn svc(block: &mut [u8], cpsr: u32, scr: u32, a: u32, b: u32, buffer: &mut [u8]) -> u32
+    requires { ⌜ Ready (now block) (now buffer) cpsr scr ⌝ }
+    ensures { λ r. ⌜ Carried (now (block .entry)) (action (now (block .entry)) (record { code = SVC; a = a; b = b })) r (now (block .exit)) (now (buffer .exit)) ⌝ }
+{
+    if beyond(a, 1, b) {
+        return refuse(buffer, number::BAD_EVENT);
+    }
+    let next = wrapping_add_u32(get_word(block, place::PC), narrow_of(cpsr));
+    if general_to_hyp(cpsr, scr, get_word(block, place::HCR)) {
+        return take_to_hyp(
+            block,
+            cpsr,
+            scr,
+            Exception::Synchronous,
+            offset::CALL,
+            next,
+            buffer,
+        );
+    }
+    take(
+        block,
+        cpsr,
+        scr,
+        Exception::Synchronous,
+        mode::SUPERVISOR,
+        offset::CALL,
+        next,
+        buffer,
+    )
+}
+
+// From NS EL1 with TSC 1 it is trapped.
+pub(crate) fn smc(block: &mut [u8], cpsr: u32, scr: u32, a: u32, b: u32, buffer: &mut [u8]) -> u32
+    requires { ⌜ Ready (now block) (now buffer) cpsr scr ⌝ }
+    ensures { λ r. ⌜ Carried (now (block .entry)) (action (now (block .entry)) (record { code = SMC; a = a; b = b })) r (now (block .exit)) (now (buffer .exit)) ⌝ }
+{
+    if beyond(a, 1, b) {
+        return refuse(buffer, number::BAD_EVENT);
+    }
+    if is_user(cpsr) {
+        return refuse(buffer, number::NOT_HERE);
+    }
+    let pc = get_word(block, place::PC);
+    if is_trapped(cpsr, scr, get_word(block, place::HCR)) {
+        return take(
+            block,
+            cpsr,
+            scr,
+            Exception::Synchronous,
+            mode::HYP,
+            offset::HYP_TRAP,
+            pc,
+            buffer,
+        );
+    }
+    take(
+        block,
+        cpsr,
+        scr,
+        Exception::Synchronous,
+        mode::MONITOR,
+        offset::CALL,
+        wrapping_add_u32(pc, 4),
+        buffer,
+    )
+}
+
+pub(crate) fn hvc(block: &mut [u8], cpsr: u32, scr: u32, a: u32, b: u32, buffer: &mut [u8]) -> u32
+    requires { ⌜ Ready (now block) (now buffer) cpsr scr ⌝ }
+    ensures { λ r. ⌜ Carried (now (block .entry)) (action (now (block .entry)) (record { code = HVC; a = a; b = b })) r (now (block .exit)) (now (buffer .exit)) ⌝ }
+{
+    if beyond(a, 1, b) {
+        return refuse(buffer, number::BAD_EVENT);
+    }
+    if is_user(cpsr) {
+        return refuse(buffer, number::NOT_HERE);
+    }
+    if is_secure(cpsr, scr) {
+        return refuse(buffer, number::NOT_HERE);
+    }
+    let next = wrapping_add_u32(get_word(block, place::PC), 4);
+    take_to_hyp(
+        block,
+        cpsr,
+        scr,
+        Exception::Synchronous,
+        offset::CALL,
+        next,
+        buffer,
+    )
+}
+
+// What the link of an abort has added, by its offset.
+fn added(own: u32) -> u32
+    ensures { λ r. ⌜ r ≡ abortMore own ⌝ }
+{
+    if own == offset::PREFETCH_ABORT { 4 } else { 8 }
+}
+
+// Either abort, by its own offset, with operands in their range.
+fn abort(block: &mut [u8], cpsr: u32, scr: u32, a: u32, own: u32, buffer: &mut [u8]) -> u32
+    requires { ⌜ Lent (now block) (now buffer) cpsr scr × (own < 32) ⌝ }
+    ensures { λ r. ⌜ Carried (now (block .entry)) (takenBy Synchronous (abortWay own (abortMore own) a cpsr scr (word (now (block .entry)) HCR) (word (now (block .entry)) PC))) r (now (block .exit)) (now (buffer .exit)) ⌝ }
+{
+    if lacks_stage2(a, cpsr, scr) {
+        return refuse(buffer, number::NOT_HERE);
+    }
+    let pc = get_word(block, place::PC);
+    if both(is_external(a), scr_ea(scr)) {
+        let link = wrapping_add_u32(pc, added(own));
+        return take(
+            block,
+            cpsr,
+            scr,
+            Exception::Synchronous,
+            mode::MONITOR,
+            own,
+            link,
+            buffer,
+        );
+    }
+    if is_stage2(a) {
+        return take_to_hyp(block, cpsr, scr, Exception::Synchronous, own, pc, buffer);
+    }
+    if general_to_hyp(cpsr, scr, get_word(block, place::HCR)) {
+        return take_to_hyp(block, cpsr, scr, Exception::Synchronous, own, pc, buffer);
+    }
+    let link = wrapping_add_u32(pc, added(own));
+    take(
+        block,
+        cpsr,
+        scr,
+        Exception::Synchronous,
+        mode::ABORT,
+        own,
+        link,
+        buffer,
+    )
+}
+
+pub(crate) fn prefetch_abort(
+    block: &mut [u8],
+    cpsr: u32,
+    scr: u32,
+    a: u32,
+    b: u32,
+    buffer: &mut [u8],
+) -> u32
+    requires { ⌜ Ready (now block) (now buffer) cpsr scr ⌝ }
+    ensures { λ r. ⌜ Carried (now (block .entry)) (action (now (block .entry)) (record { code = PREFETCH-ABORT; a = a; b = b })) r (now (block .exit)) (now (buffer .exit)) ⌝ }
+{
+    if beyond(a, 4, b) {
+        return refuse(buffer, number::BAD_EVENT);
+    }
+    abort(block, cpsr, scr, a, offset::PREFETCH_ABORT, buffer)
+}
+
+pub(crate) fn data_abort(
+    block: &mut [u8],
+    cpsr: u32,
+    scr: u32,
+    a: u32,
+    b: u32,
+    buffer: &mut [u8],
+) -> u32
+    requires { ⌜ Ready (now block) (now buffer) cpsr scr ⌝ }
+    ensures { λ r. ⌜ Carried (now (block .entry)) (action (now (block .entry)) (record { code = DATA-ABORT; a = a; b = b })) r (now (block .exit)) (now (buffer .exit)) ⌝ }
+{
+    if beyond(a, 4, b) {
+        return refuse(buffer, number::BAD_EVENT);
+    }
+    abort(block, cpsr, scr, a, offset::DATA_ABORT, buffer)
+}
+
+pub(crate) fn hyp_trap(
+    block: &mut [u8],
+    cpsr: u32,
+    scr: u32,
+    a: u32,
+    b: u32,
+    buffer: &mut [u8],
+) -> u32
+    requires { ⌜ Ready (now block) (now buffer) cpsr scr ⌝ }
+    ensures { λ r. ⌜ Carried (now (block .entry)) (action (now (block .entry)) (record { code = HYP-TRAP; a = a; b = b })) r (now (block .exit)) (now (buffer .exit)) ⌝ }
+{
+    if beyond(a, 1, b) {
+        return refuse(buffer, number::BAD_EVENT);
+    }
+    if is_secure(cpsr, scr) {
+        return refuse(buffer, number::NOT_HERE);
+    }
+    if is_hyp(cpsr) {
+        return refuse(buffer, number::NOT_HERE);
+    }
+    let pc = get_word(block, place::PC);
+    take(
+        block,
+        cpsr,
+        scr,
+        Exception::Synchronous,
+        mode::HYP,
+        offset::HYP_TRAP,
+        pc,
+        buffer,
+    )
+}
+
+pub(crate) fn monitor_trap(
+    block: &mut [u8],
+    cpsr: u32,
+    scr: u32,
+    a: u32,
+    b: u32,
+    buffer: &mut [u8],
+) -> u32
+    requires { ⌜ Ready (now block) (now buffer) cpsr scr ⌝ }
+    ensures { λ r. ⌜ Carried (now (block .entry)) (action (now (block .entry)) (record { code = MONITOR-TRAP; a = a; b = b })) r (now (block .exit)) (now (buffer .exit)) ⌝ }
+{
+    if beyond(a, 1, b) {
+        return refuse(buffer, number::BAD_EVENT);
+    }
+    if is_monitor(cpsr) {
+        return refuse(buffer, number::NOT_HERE);
+    }
+    let link = wrapping_add_u32(get_word(block, place::PC), narrow_of(cpsr));
+    take(
+        block,
+        cpsr,
+        scr,
+        Exception::Synchronous,
+        mode::MONITOR,
+        offset::MONITOR_TRAP,
+        link,
+        buffer,
+    )
+}
