@@ -1,15 +1,6 @@
 // The fields of the words that steer the rules (document 01, "The state block"), each by its register's name and its own.
 ghost use mathlib.Core.Path.{_≡_};
-ghost use Prim.Native.Nat.{_<_};
-ghost use Rattle.state.specs.Field.{flag, CPSR-T, CPSR-F, CPSR-I, CPSR-A, SCR-NS, SCR-IRQ, SCR-FIQ, SCR-EA, SCR-FW, SCR-AW, HCR-FMO, HCR-IMO, HCR-AMO, HCR-VF, HCR-VI, HCR-VA, HCR-TSC, HCR-TGE, SCTLR-V, SCTLR-EE, SCTLR-TE};
-
-// A test as a number: what bit 0 would be.
-pub fn as_number(t: bool) -> u32
-    ensures { λ r. ⌜ r ≡ flag 0 t ⌝ }
-    ensures small { λ r. ⌜ r < 2 ⌝ }
-{
-    if t { 1 } else { 0 }
-}
+ghost use Rattle.state.specs.Field.{CPSR-T, CPSR-F, CPSR-I, CPSR-A, SCR-NS, SCR-IRQ, SCR-FIQ, SCR-EA, SCR-FW, SCR-AW, HCR-FMO, HCR-IMO, HCR-AMO, HCR-VF, HCR-VI, HCR-VA, HCR-TSC, HCR-TGE, SCTLR-V};
 
 // CPSR.
 pub fn cpsr_t(cpsr: u32) -> bool
@@ -127,16 +118,4 @@ pub fn sctlr_v(sctlr: u32) -> bool
     ensures { λ r. ⌜ r ≡ SCTLR-V sctlr ⌝ }
 {
     sctlr / 0x2000 % 2 == 1
-}
-
-pub fn sctlr_ee(sctlr: u32) -> bool
-    ensures { λ r. ⌜ r ≡ SCTLR-EE sctlr ⌝ }
-{
-    sctlr / 0x200_0000 % 2 == 1
-}
-
-pub fn sctlr_te(sctlr: u32) -> bool
-    ensures { λ r. ⌜ r ≡ SCTLR-TE sctlr ⌝ }
-{
-    sctlr / 0x4000_0000 % 2 == 1
 }

@@ -6,7 +6,7 @@ ghost use Rattle.state.specs.Choice.{_is_};
 ghost use Rattle.state.specs.Field.{mode-field, SCR-NS, HCR-TGE};
 ghost use Rattle.state.specs.Mode.{USER, MONITOR, HYP, known, el1, guest};
 ghost use Rattle.state.specs.Parts.{BadModes, modeFault};
-ghost use Rattle.state.specs.State.{secure, nsEl1, nsUser, faultOf};
+ghost use Rattle.state.specs.State.{secure, faultOf};
 use crate::field::hcr_tge;
 use crate::field::scr_ns;
 use crate::mode;
@@ -68,19 +68,6 @@ pub fn is_secure(cpsr: u32, scr: u32) -> bool
     ensures { λ r. ⌜ r ≡ secure cpsr scr ⌝ }
 {
     either(!scr_ns(scr), is_monitor(cpsr))
-}
-
-// Non-secure FIQ, IRQ, Supervisor, Abort, Undefined or System?
-pub fn is_ns_el1(cpsr: u32, scr: u32) -> bool
-    ensures { λ r. ⌜ r ≡ nsEl1 cpsr scr ⌝ }
-{
-    both(scr_ns(scr), is_el1(cpsr))
-}
-
-pub fn is_ns_user(cpsr: u32, scr: u32) -> bool
-    ensures { λ r. ⌜ r ≡ nsUser cpsr scr ⌝ }
-{
-    both(scr_ns(scr), is_user(cpsr))
 }
 
 // The modes in which no block with this SCR and HCR is good, as a set: one look at it stands for all tests of the mode.

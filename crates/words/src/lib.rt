@@ -4,27 +4,13 @@ pub mod runs;
 ghost use mathlib.Core.Path.{_≡_};
 ghost use Prim.Native.Nat.{_+_, _*_, _≤_};
 ghost use lib.ListN.{length};
-ghost use Rattle.words.specs.Word.{half, spelt, word, put};
+ghost use Rattle.words.specs.Word.{spelt, word, put};
 
-// Two bytes, and four, as a number, the lowest first.
-fn pair(a: u8, b: u8) -> u32
-    ensures { λ r. ⌜ r ≡ a + 256 * b ⌝ }
-{
-    (a as u32) + 256 * (b as u32)
-}
-
+// Four bytes as a number, the lowest first.
 fn join(a: u8, b: u8, c: u8, d: u8) -> u32
     ensures { λ r. ⌜ r ≡ a + 256 * (b + 256 * (c + 256 * d)) ⌝ }
 {
     (a as u32) + 256 * ((b as u32) + 256 * ((c as u32) + 256 * (d as u32)))
-}
-
-// The two bytes from i on, as a number.
-pub fn half_at(r: &[u8], i: usize) -> u32
-    requires { ⌜ i + 2 ≤ length (now r) ⌝ }
-    ensures { λ n. ⌜ n ≡ half (now (r .entry)) i ⌝ }
-{
-    pair(r[i], r[i + 1])
 }
 
 // The four bytes from i on, as a number.
