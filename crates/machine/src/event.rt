@@ -20,6 +20,18 @@ pub struct Event {
     pub b: u32,
 }
 
+// How many values A may have, counted from 0: one where it must be 0, the two bits of an abort, the five lines of a check,
+// the cells of a banked access, the places of a note.
+pub(crate) const ZERO_ONLY: u32 = 1;
+
+pub(crate) const ABORT_VALUES: u32 = 4;
+
+pub(crate) const LINE_VALUES: u32 = 32;
+
+pub(crate) const CELL_VALUES: u32 = 64;
+
+pub(crate) const PLACE_VALUES: u32 = 44;
+
 // BAD_EVENT by the operands: A is not below its bound, or B, where it must be, is not 0.
 pub(crate) fn beyond(a: u32, bound: u32, b: u32) -> bool
     ensures { λ r. ⌜ r ≡ (leb bound a || not (b is 0)) ⌝ }

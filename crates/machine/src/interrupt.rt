@@ -10,6 +10,7 @@ ghost use Rattle.state.specs.Place.{PC};
 ghost use Rattle.words.specs.Word.{word};
 use crate::answer::done;
 use crate::answer::refuse;
+use crate::event::LINE_VALUES;
 use crate::event::beyond;
 use crate::taking::take;
 use crate::taking::take_to_hyp;
@@ -210,7 +211,7 @@ pub(crate) fn interrupt_check(
     requires { ⌜ Ready (now block) (now buffer) cpsr scr ⌝ }
     ensures { λ r. ⌜ Carried (now (block .entry)) (action (now (block .entry)) (record { code = INTERRUPT-CHECK; a = a; b = b })) r (now (block .exit)) (now (buffer .exit)) ⌝ }
 {
-    if beyond(a, 32, b) {
+    if beyond(a, LINE_VALUES, b) {
         return refuse(buffer, number::BAD_EVENT);
     }
     let hcr = get_word(block, place::HCR);

@@ -1,6 +1,7 @@
 // The synchronous events (document 01, "Routing"), on a good block: each tests its operands, asks only what its own routing
 // asks, and enters at once, so that its target is known where the entry is compiled.
 ghost use mathlib.Core.Path.{_≡_};
+ghost use mathlib.Core.Bool.{true};
 ghost use Rattle.entry.specs.Code.{
   UNDEFINED-INSTRUCTION,
   SVC,
@@ -12,13 +13,18 @@ ghost use Rattle.entry.specs.Code.{
   MONITOR-TRAP,
 };
 ghost use Rattle.entry.specs.Parts.{abortWay};
+ghost use Rattle.entry.specs.Route.{offsetTo};
 ghost use Rattle.interrupts.specs.declared.exception.Exception.the-variants.{Synchronous};
 ghost use Rattle.machine.specs.Parts.{Lent, Ready, Carried, abortMore};
-ghost use Rattle.machine.specs.Step.{takenBy, action};
+ghost use Rattle.machine.specs.Step.{Take, takenBy, action};
 ghost use Rattle.words.specs.Word.{word};
+ghost use Rattle.state.specs.Field.{mode-field};
+ghost use Rattle.state.specs.Mode.{HYP, isTarget};
 ghost use Rattle.state.specs.Place.{PC, HCR};
 ghost use Prim.Native.Nat.{_<_};
 use crate::answer::refuse;
+use crate::event::ABORT_VALUES;
+use crate::event::ZERO_ONLY;
 use crate::event::beyond;
 use crate::taking::take;
 use crate::taking::take_to_hyp;
@@ -42,6 +48,38 @@ use state::state::is_user;
 use std::num::wrapping_add_u32;
 use words::get_word;
 
+// Taken to the mode `to`, and to Hyp: the exception is synchronous.
+fn send(
+    block: &mut [u8],
+    cpsr: u32,
+    scr: u32,
+    to: u32,
+    offset: u32,
+    link: u32,
+    buffer: &mut [u8],
+) -> u32
+    requires { ⌜ Lent (now block) (now buffer) cpsr scr × (isTarget to ≡ true) × (offset < 32) ⌝ }
+    ensures { λ r. ⌜ Carried (now (block .entry)) (Take Synchronous to offset link) r (now (block .exit)) (now (buffer .exit)) ⌝ }
+{
+    take(
+        block,
+        cpsr,
+        scr,
+        Exception::Synchronous,
+        to,
+        offset,
+        link,
+        buffer,
+    )
+}
+
+fn send_to_hyp(block: &mut [u8], cpsr: u32, scr: u32, own: u32, link: u32, buffer: &mut [u8]) -> u32
+    requires { ⌜ Lent (now block) (now buffer) cpsr scr × (own < 32) ⌝ }
+    ensures { λ r. ⌜ Carried (now (block .entry)) (Take Synchronous HYP (offsetTo HYP (mode-field cpsr) own) link) r (now (block .exit)) (now (buffer .exit)) ⌝ }
+{
+    take_to_hyp(block, cpsr, scr, Exception::Synchronous, own, link, buffer)
+}
+
 pub(crate) fn undefined_instruction(
     block: &mut [u8],
     cpsr: u32,
@@ -53,27 +91,18 @@ pub(crate) fn undefined_instruction(
     requires { ⌜ Ready (now block) (now buffer) cpsr scr ⌝ }
     ensures { λ r. ⌜ Carried (now (block .entry)) (action (now (block .entry)) (record { code = UNDEFINED-INSTRUCTION; a = a; b = b })) r (now (block .exit)) (now (buffer .exit)) ⌝ }
 {
-    if beyond(a, 1, b) {
+    if beyond(a, ZERO_ONLY, b) {
         return refuse(buffer, number::BAD_EVENT);
     }
     let pc = get_word(block, place::PC);
     if general_to_hyp(cpsr, scr, get_word(block, place::HCR)) {
-        return take_to_hyp(
-            block,
-            cpsr,
-            scr,
-            Exception::Synchronous,
-            offset::UNDEFINED,
-            pc,
-            buffer,
-        );
+        return send_to_hyp(block, cpsr, scr, offset::UNDEFINED, pc, buffer);
     }
     let link = wrapping_add_u32(pc, narrow_of(cpsr));
-    take(
+    send(
         block,
         cpsr,
         scr,
-        Exception::Synchronous,
         mode::UNDEFINED,
         offset::UNDEFINED,
         link,
@@ -85,26 +114,17 @@ pub(crate) fn svc(block: &mut [u8], cpsr: u32, scr: u32, a: u32, b: u32, buffer:
     requires { ⌜ Ready (now block) (now buffer) cpsr scr ⌝ }
     ensures { λ r. ⌜ Carried (now (block .entry)) (action (now (block .entry)) (record { code = SVC; a = a; b = b })) r (now (block .exit)) (now (buffer .exit)) ⌝ }
 {
-    if beyond(a, 1, b) {
+    if beyond(a, ZERO_ONLY, b) {
         return refuse(buffer, number::BAD_EVENT);
     }
     let next = wrapping_add_u32(get_word(block, place::PC), narrow_of(cpsr));
     if general_to_hyp(cpsr, scr, get_word(block, place::HCR)) {
-        return take_to_hyp(
-            block,
-            cpsr,
-            scr,
-            Exception::Synchronous,
-            offset::CALL,
-            next,
-            buffer,
-        );
+        return send_to_hyp(block, cpsr, scr, offset::CALL, next, buffer);
     }
-    take(
+    send(
         block,
         cpsr,
         scr,
-        Exception::Synchronous,
         mode::SUPERVISOR,
         offset::CALL,
         next,
@@ -117,7 +137,7 @@ pub(crate) fn smc(block: &mut [u8], cpsr: u32, scr: u32, a: u32, b: u32, buffer:
     requires { ⌜ Ready (now block) (now buffer) cpsr scr ⌝ }
     ensures { λ r. ⌜ Carried (now (block .entry)) (action (now (block .entry)) (record { code = SMC; a = a; b = b })) r (now (block .exit)) (now (buffer .exit)) ⌝ }
 {
-    if beyond(a, 1, b) {
+    if beyond(a, ZERO_ONLY, b) {
         return refuse(buffer, number::BAD_EVENT);
     }
     if is_user(cpsr) {
@@ -125,22 +145,12 @@ pub(crate) fn smc(block: &mut [u8], cpsr: u32, scr: u32, a: u32, b: u32, buffer:
     }
     let pc = get_word(block, place::PC);
     if is_trapped(cpsr, scr, get_word(block, place::HCR)) {
-        return take(
-            block,
-            cpsr,
-            scr,
-            Exception::Synchronous,
-            mode::HYP,
-            offset::HYP_TRAP,
-            pc,
-            buffer,
-        );
+        return send(block, cpsr, scr, mode::HYP, offset::HYP_TRAP, pc, buffer);
     }
-    take(
+    send(
         block,
         cpsr,
         scr,
-        Exception::Synchronous,
         mode::MONITOR,
         offset::CALL,
         wrapping_add_u32(pc, 4),
@@ -152,7 +162,7 @@ pub(crate) fn hvc(block: &mut [u8], cpsr: u32, scr: u32, a: u32, b: u32, buffer:
     requires { ⌜ Ready (now block) (now buffer) cpsr scr ⌝ }
     ensures { λ r. ⌜ Carried (now (block .entry)) (action (now (block .entry)) (record { code = HVC; a = a; b = b })) r (now (block .exit)) (now (buffer .exit)) ⌝ }
 {
-    if beyond(a, 1, b) {
+    if beyond(a, ZERO_ONLY, b) {
         return refuse(buffer, number::BAD_EVENT);
     }
     if is_user(cpsr) {
@@ -162,15 +172,7 @@ pub(crate) fn hvc(block: &mut [u8], cpsr: u32, scr: u32, a: u32, b: u32, buffer:
         return refuse(buffer, number::NOT_HERE);
     }
     let next = wrapping_add_u32(get_word(block, place::PC), 4);
-    take_to_hyp(
-        block,
-        cpsr,
-        scr,
-        Exception::Synchronous,
-        offset::CALL,
-        next,
-        buffer,
-    )
+    send_to_hyp(block, cpsr, scr, offset::CALL, next, buffer)
 }
 
 // What the link of an abort has added, by its offset.
@@ -191,34 +193,16 @@ fn abort(block: &mut [u8], cpsr: u32, scr: u32, a: u32, own: u32, buffer: &mut [
     let pc = get_word(block, place::PC);
     if both(is_external(a), scr_ea(scr)) {
         let link = wrapping_add_u32(pc, added(own));
-        return take(
-            block,
-            cpsr,
-            scr,
-            Exception::Synchronous,
-            mode::MONITOR,
-            own,
-            link,
-            buffer,
-        );
+        return send(block, cpsr, scr, mode::MONITOR, own, link, buffer);
     }
     if is_stage2(a) {
-        return take_to_hyp(block, cpsr, scr, Exception::Synchronous, own, pc, buffer);
+        return send_to_hyp(block, cpsr, scr, own, pc, buffer);
     }
     if general_to_hyp(cpsr, scr, get_word(block, place::HCR)) {
-        return take_to_hyp(block, cpsr, scr, Exception::Synchronous, own, pc, buffer);
+        return send_to_hyp(block, cpsr, scr, own, pc, buffer);
     }
     let link = wrapping_add_u32(pc, added(own));
-    take(
-        block,
-        cpsr,
-        scr,
-        Exception::Synchronous,
-        mode::ABORT,
-        own,
-        link,
-        buffer,
-    )
+    send(block, cpsr, scr, mode::ABORT, own, link, buffer)
 }
 
 pub(crate) fn prefetch_abort(
@@ -232,7 +216,7 @@ pub(crate) fn prefetch_abort(
     requires { ⌜ Ready (now block) (now buffer) cpsr scr ⌝ }
     ensures { λ r. ⌜ Carried (now (block .entry)) (action (now (block .entry)) (record { code = PREFETCH-ABORT; a = a; b = b })) r (now (block .exit)) (now (buffer .exit)) ⌝ }
 {
-    if beyond(a, 4, b) {
+    if beyond(a, ABORT_VALUES, b) {
         return refuse(buffer, number::BAD_EVENT);
     }
     abort(block, cpsr, scr, a, offset::PREFETCH_ABORT, buffer)
@@ -249,7 +233,7 @@ pub(crate) fn data_abort(
     requires { ⌜ Ready (now block) (now buffer) cpsr scr ⌝ }
     ensures { λ r. ⌜ Carried (now (block .entry)) (action (now (block .entry)) (record { code = DATA-ABORT; a = a; b = b })) r (now (block .exit)) (now (buffer .exit)) ⌝ }
 {
-    if beyond(a, 4, b) {
+    if beyond(a, ABORT_VALUES, b) {
         return refuse(buffer, number::BAD_EVENT);
     }
     abort(block, cpsr, scr, a, offset::DATA_ABORT, buffer)
@@ -266,7 +250,7 @@ pub(crate) fn hyp_trap(
     requires { ⌜ Ready (now block) (now buffer) cpsr scr ⌝ }
     ensures { λ r. ⌜ Carried (now (block .entry)) (action (now (block .entry)) (record { code = HYP-TRAP; a = a; b = b })) r (now (block .exit)) (now (buffer .exit)) ⌝ }
 {
-    if beyond(a, 1, b) {
+    if beyond(a, ZERO_ONLY, b) {
         return refuse(buffer, number::BAD_EVENT);
     }
     if is_secure(cpsr, scr) {
@@ -276,16 +260,7 @@ pub(crate) fn hyp_trap(
         return refuse(buffer, number::NOT_HERE);
     }
     let pc = get_word(block, place::PC);
-    take(
-        block,
-        cpsr,
-        scr,
-        Exception::Synchronous,
-        mode::HYP,
-        offset::HYP_TRAP,
-        pc,
-        buffer,
-    )
+    send(block, cpsr, scr, mode::HYP, offset::HYP_TRAP, pc, buffer)
 }
 
 pub(crate) fn monitor_trap(
@@ -299,18 +274,17 @@ pub(crate) fn monitor_trap(
     requires { ⌜ Ready (now block) (now buffer) cpsr scr ⌝ }
     ensures { λ r. ⌜ Carried (now (block .entry)) (action (now (block .entry)) (record { code = MONITOR-TRAP; a = a; b = b })) r (now (block .exit)) (now (buffer .exit)) ⌝ }
 {
-    if beyond(a, 1, b) {
+    if beyond(a, ZERO_ONLY, b) {
         return refuse(buffer, number::BAD_EVENT);
     }
     if is_monitor(cpsr) {
         return refuse(buffer, number::NOT_HERE);
     }
     let link = wrapping_add_u32(get_word(block, place::PC), narrow_of(cpsr));
-    take(
+    send(
         block,
         cpsr,
         scr,
-        Exception::Synchronous,
         mode::MONITOR,
         offset::MONITOR_TRAP,
         link,

@@ -8,6 +8,8 @@ ghost use Rattle.machine.specs.Parts.{Ready, Carried, judgedPut};
 ghost use Rattle.machine.specs.Step.{ANSWER-SIZE, action};
 use crate::answer::done;
 use crate::answer::refuse;
+use crate::event::CELL_VALUES;
+use crate::event::PLACE_VALUES;
 use crate::event::beyond;
 use crate::verdict::Verdict;
 use banked::cell::cell_of;
@@ -29,7 +31,7 @@ pub(crate) fn banked_read(
     requires { ⌜ Ready (now block) (now buffer) cpsr scr ⌝ }
     ensures { λ r. ⌜ Carried (now (block .entry)) (action (now (block .entry)) (record { code = BANKED-READ; a = a; b = b })) r (now (block .exit)) (now (buffer .exit)) ⌝ }
 {
-    if beyond(a, 64, b) {
+    if beyond(a, CELL_VALUES, b) {
         return refuse(buffer, number::BAD_EVENT);
     }
     let p = cell_of(a);
@@ -66,7 +68,7 @@ pub(crate) fn banked_write(
     requires { ⌜ Ready (now block) (now buffer) cpsr scr ⌝ }
     ensures { λ r. ⌜ Carried (now (block .entry)) (action (now (block .entry)) (record { code = BANKED-WRITE; a = a; b = b })) r (now (block .exit)) (now (buffer .exit)) ⌝ }
 {
-    if beyond(a, 64, 0) {
+    if beyond(a, CELL_VALUES, 0) {
         return refuse(buffer, number::BAD_EVENT);
     }
     let p = cell_of(a);
@@ -86,7 +88,7 @@ pub(crate) fn note(block: &mut [u8], cpsr: u32, scr: u32, a: u32, b: u32, buffer
     requires { ⌜ Ready (now block) (now buffer) cpsr scr ⌝ }
     ensures { λ r. ⌜ Carried (now (block .entry)) (action (now (block .entry)) (record { code = NOTE; a = a; b = b })) r (now (block .exit)) (now (buffer .exit)) ⌝ }
 {
-    if beyond(a, 44, 0) {
+    if beyond(a, PLACE_VALUES, 0) {
         return refuse(buffer, number::BAD_EVENT);
     }
     let hcr = get_word(block, place::HCR);

@@ -43,8 +43,8 @@ added-requires c κs = search needs
 wrapping-add-u32-requires : tie.Need-wrapping-add-u32-requires
 wrapping-add-u32-requires c κs = search needs
 
-take-requires : tie.Need-take-requires
-take-requires c κs = (c .before .before .before .before .before .before .before .before .before .before .before .before .before .before .pre .0, listed MONITOR refl, c .before .before .before .before .before .before .before .before .before .before .before .before .before .before .pre .1)
+send-requires : tie.Need-send-requires
+send-requires c κs = (c .before .before .before .before .before .before .before .before .before .before .before .before .before .before .pre .0, listed MONITOR refl, c .before .before .before .before .before .before .before .before .before .before .before .before .before .before .pre .1)
 
 same-length-2 : tie.Need-same-length-2
 same-length-2 c = search needs
@@ -58,13 +58,13 @@ returns-2 c =
     (abort-to-monitor (c .before .before .before .before .before .before .before .before .before .before .before .before .before .before .before .before .before .before .before .args .own) (abortMore (c .before .before .before .before .before .before .before .before .before .before .before .before .before .before .before .before .before .before .before .args .own)) (c .before .before .before .before .before .before .before .before .before .before .before .before .before .before .before .before .before .before .before .args .a) (c .before .before .before .before .before .before .before .before .before .before .before .before .before .before .before .before .before .before .before .args .cpsr) (c .before .before .before .before .before .before .before .before .before .before .before .before .before .before .before .before .before .before .before .args .scr) _ _ (told (c .before .before .before .before .before .before .before .before .before .before .before .before .before .before .before .before .lacks-stage2 .ensures) (c .before .before .before .before .before .before .before .before .before .before .before .before .before .before .before .if1 .left))
     (told-both (c .before .before .before .before .before .before .before .before .before .before .before .before .is-external .ensures) (c .before .before .before .before .before .before .before .before .before .before .before .scr-ea .ensures) (c .before .before .before .before .before .before .before .before .before .before .both .ensures) (c .before .before .before .before .before .before .before .before .before .if2 .taken)) (c .before .before .before .before .before .before .before .before .added .ensures) (c .before .before .before .before .before .before .before .wrapping-add-u32 .ensures)
     ∙ abort-words (c .before .before .before .before .before .before .before .before .before .before .before .before .before .before .before .before .before .before .before .args .own) _ (c .before .before .before .before .before .before .before .before .before .before .before .before .before .before .before .before .before .before .before .args .a) (c .before .before .before .before .before .before .before .before .before .before .before .before .before .before .before .before .before .before .before .args .cpsr) (c .before .before .before .before .before .before .before .before .before .before .before .before .before .before .before .before .before .before .before .args .scr) refl (c .before .before .before .before .before .before .before .before .before .before .before .before .before .get-word .ensures))
-    (c .before .before .before .before .take .ensures)
+    (c .before .before .before .before .send .ensures)
 
 is-stage2-requires : tie.Need-is-stage2-requires
 is-stage2-requires c κs = search needs
 
-take-to-hyp-requires : tie.Need-take-to-hyp-requires
-take-to-hyp-requires c κs = search needs
+send-to-hyp-requires : tie.Need-send-to-hyp-requires
+send-to-hyp-requires c κs = search needs
 
 same-length-4 : tie.Need-same-length-4
 same-length-4 c = search needs
@@ -78,7 +78,7 @@ returns-3 c =
     (abort-at-stage2 (c .before .before .before .before .before .before .before .before .before .before .before .before .before .before .before .before .before .before .before .args .own) (abortMore (c .before .before .before .before .before .before .before .before .before .before .before .before .before .before .before .before .before .before .before .args .own)) (c .before .before .before .before .before .before .before .before .before .before .before .before .before .before .before .before .before .before .before .args .a) (c .before .before .before .before .before .before .before .before .before .before .before .before .before .before .before .before .before .before .before .args .cpsr) (c .before .before .before .before .before .before .before .before .before .before .before .before .before .before .before .before .before .before .before .args .scr) _ _ (told (c .before .before .before .before .before .before .before .before .before .before .before .before .before .before .before .before .lacks-stage2 .ensures) (c .before .before .before .before .before .before .before .before .before .before .before .before .before .before .before .if1 .left))
     (told-both (c .before .before .before .before .before .before .before .before .before .before .before .before .is-external .ensures) (c .before .before .before .before .before .before .before .before .before .before .before .scr-ea .ensures) (c .before .before .before .before .before .before .before .before .before .before .both .ensures) (c .before .before .before .before .before .before .before .before .before .if2 .left)) (told (c .before .before .before .before .before .before .before .before .is-stage2 .ensures) (c .before .before .before .before .before .before .before .if3 .taken))
     ∙ abort-words (c .before .before .before .before .before .before .before .before .before .before .before .before .before .before .before .before .before .before .before .args .own) _ (c .before .before .before .before .before .before .before .before .before .before .before .before .before .before .before .before .before .before .before .args .a) (c .before .before .before .before .before .before .before .before .before .before .before .before .before .before .before .before .before .before .before .args .cpsr) (c .before .before .before .before .before .before .before .before .before .before .before .before .before .before .before .before .before .before .before .args .scr) refl (c .before .before .before .before .before .before .before .before .before .before .before .before .before .get-word .ensures))
-    (c .before .before .before .before .take-to-hyp .ensures)
+    (c .before .before .before .before .send-to-hyp .ensures)
 
 get-word-requires-2 : tie.Need-get-word-requires-2
 get-word-requires-2 c κs = search needs
@@ -86,8 +86,8 @@ get-word-requires-2 c κs = search needs
 general-to-hyp-requires : tie.Need-general-to-hyp-requires
 general-to-hyp-requires c κs = search needs
 
-take-to-hyp-requires-2 : tie.Need-take-to-hyp-requires-2
-take-to-hyp-requires-2 c κs = search needs
+send-to-hyp-requires-2 : tie.Need-send-to-hyp-requires-2
+send-to-hyp-requires-2 c κs = search needs
 
 same-length-6 : tie.Need-same-length-6
 same-length-6 c = search needs
@@ -101,7 +101,7 @@ returns-4 c =
     (abort-to-hyp (c .before .before .before .before .before .before .before .before .before .before .before .before .before .before .before .before .before .before .before .before .before .before .before .args .own) (abortMore (c .before .before .before .before .before .before .before .before .before .before .before .before .before .before .before .before .before .before .before .before .before .before .before .args .own)) (c .before .before .before .before .before .before .before .before .before .before .before .before .before .before .before .before .before .before .before .before .before .before .before .args .a) (c .before .before .before .before .before .before .before .before .before .before .before .before .before .before .before .before .before .before .before .before .before .before .before .args .cpsr) (c .before .before .before .before .before .before .before .before .before .before .before .before .before .before .before .before .before .before .before .before .before .before .before .args .scr) _ _ (told (c .before .before .before .before .before .before .before .before .before .before .before .before .before .before .before .before .before .before .before .before .lacks-stage2 .ensures) (c .before .before .before .before .before .before .before .before .before .before .before .before .before .before .before .before .before .before .before .if1 .left))
     (told-both (c .before .before .before .before .before .before .before .before .before .before .before .before .before .before .before .before .is-external .ensures) (c .before .before .before .before .before .before .before .before .before .before .before .before .before .before .before .scr-ea .ensures) (c .before .before .before .before .before .before .before .before .before .before .before .before .before .before .both .ensures) (c .before .before .before .before .before .before .before .before .before .before .before .before .before .if2 .left)) (told (c .before .before .before .before .before .before .before .before .before .before .before .before .is-stage2 .ensures) (c .before .before .before .before .before .before .before .before .before .before .before .if3 .left)) (told (c .before .before .before .before .before .before .before .before .general-to-hyp .ensures) (c .before .before .before .before .before .before .before .if4 .taken))
     ∙ abort-words (c .before .before .before .before .before .before .before .before .before .before .before .before .before .before .before .before .before .before .before .before .before .before .before .args .own) _ (c .before .before .before .before .before .before .before .before .before .before .before .before .before .before .before .before .before .before .before .before .before .before .before .args .a) (c .before .before .before .before .before .before .before .before .before .before .before .before .before .before .before .before .before .before .before .before .before .before .before .args .cpsr) (c .before .before .before .before .before .before .before .before .before .before .before .before .before .before .before .before .before .before .before .before .before .before .before .args .scr) (c .before .before .before .before .before .before .before .before .before .get-word2 .ensures) (c .before .before .before .before .before .before .before .before .before .before .before .before .before .before .before .before .before .get-word .ensures))
-    (c .before .before .before .before .take-to-hyp2 .ensures)
+    (c .before .before .before .before .send-to-hyp2 .ensures)
 
 added-requires-2 : tie.Need-added-requires-2
 added-requires-2 c κs = search needs
@@ -109,8 +109,8 @@ added-requires-2 c κs = search needs
 wrapping-add-u32-requires-2 : tie.Need-wrapping-add-u32-requires-2
 wrapping-add-u32-requires-2 c κs = search needs
 
-take-requires-2 : tie.Need-take-requires-2
-take-requires-2 c κs = (c .before .before .before .before .before .before .before .before .before .before .before .before .before .before .before .before .before .before .before .before .pre .0, listed ABORT refl, c .before .before .before .before .before .before .before .before .before .before .before .before .before .before .before .before .before .before .before .before .pre .1)
+send-requires-2 : tie.Need-send-requires-2
+send-requires-2 c κs = (c .before .before .before .before .before .before .before .before .before .before .before .before .before .before .before .before .before .before .before .before .pre .0, listed ABORT refl, c .before .before .before .before .before .before .before .before .before .before .before .before .before .before .before .before .before .before .before .before .pre .1)
 
 same-length-8 : tie.Need-same-length-8
 same-length-8 c = search needs
@@ -124,7 +124,7 @@ returns-5 c =
     (abort-to-own (c .before .before .before .before .before .before .before .before .before .before .before .before .before .before .before .before .before .before .before .before .before .before .before .before .before .args .own) (abortMore (c .before .before .before .before .before .before .before .before .before .before .before .before .before .before .before .before .before .before .before .before .before .before .before .before .before .args .own)) (c .before .before .before .before .before .before .before .before .before .before .before .before .before .before .before .before .before .before .before .before .before .before .before .before .before .args .a) (c .before .before .before .before .before .before .before .before .before .before .before .before .before .before .before .before .before .before .before .before .before .before .before .before .before .args .cpsr) (c .before .before .before .before .before .before .before .before .before .before .before .before .before .before .before .before .before .before .before .before .before .before .before .before .before .args .scr) _ _ (told (c .before .before .before .before .before .before .before .before .before .before .before .before .before .before .before .before .before .before .before .before .before .before .lacks-stage2 .ensures) (c .before .before .before .before .before .before .before .before .before .before .before .before .before .before .before .before .before .before .before .before .before .if1 .left))
     (told-both (c .before .before .before .before .before .before .before .before .before .before .before .before .before .before .before .before .before .before .is-external .ensures) (c .before .before .before .before .before .before .before .before .before .before .before .before .before .before .before .before .before .scr-ea .ensures) (c .before .before .before .before .before .before .before .before .before .before .before .before .before .before .before .before .both .ensures) (c .before .before .before .before .before .before .before .before .before .before .before .before .before .before .before .if2 .left)) (told (c .before .before .before .before .before .before .before .before .before .before .before .before .before .before .is-stage2 .ensures) (c .before .before .before .before .before .before .before .before .before .before .before .before .before .if3 .left)) (told (c .before .before .before .before .before .before .before .before .before .before .general-to-hyp .ensures) (c .before .before .before .before .before .before .before .before .before .if4 .left)) (c .before .before .before .before .before .before .before .before .added2 .ensures) (c .before .before .before .before .before .before .before .wrapping-add-u322 .ensures)
     ∙ abort-words (c .before .before .before .before .before .before .before .before .before .before .before .before .before .before .before .before .before .before .before .before .before .before .before .before .before .args .own) _ (c .before .before .before .before .before .before .before .before .before .before .before .before .before .before .before .before .before .before .before .before .before .before .before .before .before .args .a) (c .before .before .before .before .before .before .before .before .before .before .before .before .before .before .before .before .before .before .before .before .before .before .before .before .before .args .cpsr) (c .before .before .before .before .before .before .before .before .before .before .before .before .before .before .before .before .before .before .before .before .before .before .before .before .before .args .scr) (c .before .before .before .before .before .before .before .before .before .before .before .get-word2 .ensures) (c .before .before .before .before .before .before .before .before .before .before .before .before .before .before .before .before .before .before .before .get-word .ensures))
-    (c .before .before .before .before .take2 .ensures)
+    (c .before .before .before .before .send2 .ensures)
 
 pub abort-spec : {M : Type 1} → statement M
 abort-spec =
@@ -140,24 +140,24 @@ abort-spec =
     both-requires
     added-requires
     wrapping-add-u32-requires
-    take-requires
+    send-requires
     same-length-2
     same-length-3
     returns-2
     is-stage2-requires
-    take-to-hyp-requires
+    send-to-hyp-requires
     same-length-4
     same-length-5
     returns-3
     get-word-requires-2
     general-to-hyp-requires
-    take-to-hyp-requires-2
+    send-to-hyp-requires-2
     same-length-6
     same-length-7
     returns-4
     added-requires-2
     wrapping-add-u32-requires-2
-    take-requires-2
+    send-requires-2
     same-length-8
     same-length-9
     returns-5)

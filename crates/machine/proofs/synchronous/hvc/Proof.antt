@@ -75,8 +75,8 @@ get-word-requires c κs = search needs
 wrapping-add-u32-requires : tie.Need-wrapping-add-u32-requires
 wrapping-add-u32-requires c κs = search needs
 
-take-to-hyp-requires : tie.Need-take-to-hyp-requires
-take-to-hyp-requires c κs = search needs
+send-to-hyp-requires : tie.Need-send-to-hyp-requires
+send-to-hyp-requires c κs = search needs
 
 same-length-4 : tie.Need-same-length-4
 same-length-4 c = search needs
@@ -92,7 +92,7 @@ returns-4 c =
     (sent _ HVC _ _ (refl, refl, refl, refl, refl) (c .before .before .before .before .before .before .before .before .before .before .before .before .before .before .before .before .before .before .pre .0 .0) (c .before .before .before .before .before .before .before .before .before .before .before .before .before .before .before .before .before .before .pre .1) (told (c .before .before .before .before .before .before .before .before .before .before .before .before .before .before .before .beyond .ensures) (c .before .before .before .before .before .before .before .before .before .before .before .before .before .before .if1 .left)) HYP (offsetTo HYP (mode-field (c .before .before .before .before .before .before .before .before .before .before .before .before .before .before .before .before .before .before .args .cpsr)) 0x08) (c .before .before .before .before .before .before .before .before .before .before .before .before .before .before .before .before .before .before .pre .0 .2) (c .before .before .before .before .before .before .before .before .before .before .before .before .before .before .before .before .before .before .pre .0 .3) refl (c .before .before .before .before .before .before .before .before .get-word .ensures) (c .before .before .before .before .before .before .before .wrapping-add-u32 .ensures)
     (hvc-taken _ _ _ _ _ f
     (neither (mode-field (c .before .before .before .before .before .before .before .before .before .before .before .before .before .before .before .before .before .before .args .cpsr) is USER) (secure (c .before .before .before .before .before .before .before .before .before .before .before .before .before .before .before .before .before .before .args .cpsr) (c .before .before .before .before .before .before .before .before .before .before .before .before .before .before .before .before .before .before .args .scr)) (told (c .before .before .before .before .before .before .before .before .before .before .before .before .before .is-user .ensures) (c .before .before .before .before .before .before .before .before .before .before .before .before .if2 .left)) (told (c .before .before .before .before .before .before .before .before .before .before .before .is-secure .ensures) (c .before .before .before .before .before .before .before .before .before .before .if3 .left)))))
-    (c .before .before .before .before .take-to-hyp .ensures)
+    (c .before .before .before .before .send-to-hyp .ensures)
 
 pub hvc-spec : {M : Type 1} → statement M
 hvc-spec =
@@ -112,7 +112,7 @@ hvc-spec =
     returns-3
     get-word-requires
     wrapping-add-u32-requires
-    take-to-hyp-requires
+    send-to-hyp-requires
     same-length-4
     same-length-5
     returns-4)

@@ -71,8 +71,8 @@ returns-3 c =
 get-word-requires : tie.Need-get-word-requires
 get-word-requires c κs = search needs
 
-take-requires : tie.Need-take-requires
-take-requires c κs = (c .before .before .before .before .before .before .before .before .before .before .before .before .pre .0, listed HYP refl, lit< tt)
+send-requires : tie.Need-send-requires
+send-requires c κs = (c .before .before .before .before .before .before .before .before .before .before .before .before .pre .0, listed HYP refl, lit< tt)
 
 same-length-4 : tie.Need-same-length-4
 same-length-4 c = search needs
@@ -88,7 +88,7 @@ returns-4 c =
     (sent _ HYP-TRAP _ _ (refl, refl, refl, refl, refl) (c .before .before .before .before .before .before .before .before .before .before .before .before .before .before .before .before .before .pre .0 .0) (c .before .before .before .before .before .before .before .before .before .before .before .before .before .before .before .before .before .pre .1) (told (c .before .before .before .before .before .before .before .before .before .before .before .before .before .before .beyond .ensures) (c .before .before .before .before .before .before .before .before .before .before .before .before .before .if1 .left)) HYP 0x14 (c .before .before .before .before .before .before .before .before .before .before .before .before .before .before .before .before .before .pre .0 .2) (c .before .before .before .before .before .before .before .before .before .before .before .before .before .before .before .before .before .pre .0 .3) refl (c .before .before .before .before .before .before .before .get-word .ensures) refl
     (hyp-trap-taken _ _ _ _ _ f
     (neither (secure (c .before .before .before .before .before .before .before .before .before .before .before .before .before .before .before .before .before .args .cpsr) (c .before .before .before .before .before .before .before .before .before .before .before .before .before .before .before .before .before .args .scr)) (mode-field (c .before .before .before .before .before .before .before .before .before .before .before .before .before .before .before .before .before .args .cpsr) is HYP) (told (c .before .before .before .before .before .before .before .before .before .before .before .before .is-secure .ensures) (c .before .before .before .before .before .before .before .before .before .before .before .if2 .left)) (told (c .before .before .before .before .before .before .before .before .before .before .is-hyp .ensures) (c .before .before .before .before .before .before .before .before .before .if3 .left)))))
-    (c .before .before .before .before .take .ensures)
+    (c .before .before .before .before .send .ensures)
 
 pub hyp-trap-spec : {M : Type 1} → statement M
 hyp-trap-spec =
@@ -107,7 +107,7 @@ hyp-trap-spec =
     same-length-3
     returns-3
     get-word-requires
-    take-requires
+    send-requires
     same-length-4
     same-length-5
     returns-4)

@@ -57,8 +57,8 @@ narrow-of-requires c κs = search needs
 wrapping-add-u32-requires : tie.Need-wrapping-add-u32-requires
 wrapping-add-u32-requires c κs = search needs
 
-take-requires : tie.Need-take-requires
-take-requires c κs = (c .before .before .before .before .before .before .before .before .before .before .before .before .pre .0, listed MONITOR refl, lit< tt)
+send-requires : tie.Need-send-requires
+send-requires c κs = (c .before .before .before .before .before .before .before .before .before .before .before .before .pre .0, listed MONITOR refl, lit< tt)
 
 same-length-3 : tie.Need-same-length-3
 same-length-3 c = search needs
@@ -74,7 +74,7 @@ returns-3 c =
     (sent _ MONITOR-TRAP _ _ (refl, refl, refl, refl, refl) (c .before .before .before .before .before .before .before .before .before .before .before .before .before .before .before .before .before .pre .0 .0) (c .before .before .before .before .before .before .before .before .before .before .before .before .before .before .before .before .before .pre .1) (told (c .before .before .before .before .before .before .before .before .before .before .before .before .before .before .beyond .ensures) (c .before .before .before .before .before .before .before .before .before .before .before .before .before .if1 .left)) MONITOR 0x04 (c .before .before .before .before .before .before .before .before .before .before .before .before .before .before .before .before .before .pre .0 .2) (c .before .before .before .before .before .before .before .before .before .before .before .before .before .before .before .before .before .pre .0 .3) refl (c .before .before .before .before .before .before .before .before .before .get-word .ensures)
     (next _ (c .before .before .before .before .before .before .before .before .before .before .before .before .before .before .before .before .before .args .cpsr) (c .before .before .before .before .before .before .before .before .narrow-of .ensures) (c .before .before .before .before .before .before .before .wrapping-add-u32 .ensures))
     (monitor-trap-taken _ _ _ _ _ f (told (c .before .before .before .before .before .before .before .before .before .before .before .before .is-monitor .ensures) (c .before .before .before .before .before .before .before .before .before .before .before .if2 .left))))
-    (c .before .before .before .before .take .ensures)
+    (c .before .before .before .before .send .ensures)
 
 pub monitor-trap-spec : {M : Type 1} → statement M
 monitor-trap-spec =
@@ -91,7 +91,7 @@ monitor-trap-spec =
     get-word-requires
     narrow-of-requires
     wrapping-add-u32-requires
-    take-requires
+    send-requires
     same-length-3
     same-length-4
     returns-3)

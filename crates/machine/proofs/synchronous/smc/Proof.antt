@@ -57,8 +57,8 @@ get-word-requires-2 c κs = search needs
 is-trapped-requires : tie.Need-is-trapped-requires
 is-trapped-requires c κs = search needs
 
-take-requires : tie.Need-take-requires
-take-requires c κs = (c .before .before .before .before .before .before .before .before .before .before .before .before .before .before .pre .0, listed HYP refl, lit< tt)
+send-requires : tie.Need-send-requires
+send-requires c κs = (c .before .before .before .before .before .before .before .before .before .before .before .before .before .before .pre .0, listed HYP refl, lit< tt)
 
 same-length-3 : tie.Need-same-length-3
 same-length-3 c = search needs
@@ -73,13 +73,13 @@ returns-3 c =
     same-action _
     (sent _ SMC _ _ (refl, refl, refl, refl, refl) (c .before .before .before .before .before .before .before .before .before .before .before .before .before .before .before .before .before .before .before .pre .0 .0) (c .before .before .before .before .before .before .before .before .before .before .before .before .before .before .before .before .before .before .before .pre .1) (told (c .before .before .before .before .before .before .before .before .before .before .before .before .before .before .before .before .beyond .ensures) (c .before .before .before .before .before .before .before .before .before .before .before .before .before .before .before .if1 .left)) HYP 0x14 (c .before .before .before .before .before .before .before .before .before .before .before .before .before .before .before .before .before .before .before .pre .0 .2) (c .before .before .before .before .before .before .before .before .before .before .before .before .before .before .before .before .before .before .before .pre .0 .3) (c .before .before .before .before .before .before .before .before .before .get-word2 .ensures) (c .before .before .before .before .before .before .before .before .before .before .before .get-word .ensures) refl
     (smc-trapped _ _ _ _ _ f (told (c .before .before .before .before .before .before .before .before .before .before .before .before .before .before .is-user .ensures) (c .before .before .before .before .before .before .before .before .before .before .before .before .before .if2 .left)) (told (c .before .before .before .before .before .before .before .before .is-trapped .ensures) (c .before .before .before .before .before .before .before .if3 .taken))))
-    (c .before .before .before .before .take .ensures)
+    (c .before .before .before .before .send .ensures)
 
 wrapping-add-u32-requires : tie.Need-wrapping-add-u32-requires
 wrapping-add-u32-requires c κs = search needs
 
-take-requires-2 : tie.Need-take-requires-2
-take-requires-2 c κs = (c .before .before .before .before .before .before .before .before .before .before .before .before .before .before .before .pre .0, listed MONITOR refl, lit< tt)
+send-requires-2 : tie.Need-send-requires-2
+send-requires-2 c κs = (c .before .before .before .before .before .before .before .before .before .before .before .before .before .before .before .pre .0, listed MONITOR refl, lit< tt)
 
 same-length-5 : tie.Need-same-length-5
 same-length-5 c = search needs
@@ -94,7 +94,7 @@ returns-4 c =
     same-action _
     (sent _ SMC _ _ (refl, refl, refl, refl, refl) (c .before .before .before .before .before .before .before .before .before .before .before .before .before .before .before .before .before .before .before .before .pre .0 .0) (c .before .before .before .before .before .before .before .before .before .before .before .before .before .before .before .before .before .before .before .before .pre .1) (told (c .before .before .before .before .before .before .before .before .before .before .before .before .before .before .before .before .before .beyond .ensures) (c .before .before .before .before .before .before .before .before .before .before .before .before .before .before .before .before .if1 .left)) MONITOR 0x08 (c .before .before .before .before .before .before .before .before .before .before .before .before .before .before .before .before .before .before .before .before .pre .0 .2) (c .before .before .before .before .before .before .before .before .before .before .before .before .before .before .before .before .before .before .before .before .pre .0 .3) (c .before .before .before .before .before .before .before .before .before .before .get-word2 .ensures) (c .before .before .before .before .before .before .before .before .before .before .before .before .get-word .ensures) (c .before .before .before .before .before .before .wrapping-add-u32 .ensures)
     (smc-taken _ _ _ _ _ f (told (c .before .before .before .before .before .before .before .before .before .before .before .before .before .before .before .is-user .ensures) (c .before .before .before .before .before .before .before .before .before .before .before .before .before .before .if2 .left)) (told (c .before .before .before .before .before .before .before .before .before .is-trapped .ensures) (c .before .before .before .before .before .before .before .before .if3 .left))))
-    (c .before .before .before .before .take2 .ensures)
+    (c .before .before .before .before .send2 .ensures)
 
 pub smc-spec : {M : Type 1} → statement M
 smc-spec =
@@ -111,12 +111,12 @@ smc-spec =
     get-word-requires
     get-word-requires-2
     is-trapped-requires
-    take-requires
+    send-requires
     same-length-3
     same-length-4
     returns-3
     wrapping-add-u32-requires
-    take-requires-2
+    send-requires-2
     same-length-5
     same-length-6
     returns-4)

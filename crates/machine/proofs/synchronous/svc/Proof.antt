@@ -47,8 +47,8 @@ get-word-requires-2 c κs = search needs
 general-to-hyp-requires : tie.Need-general-to-hyp-requires
 general-to-hyp-requires c κs = search needs
 
-take-to-hyp-requires : tie.Need-take-to-hyp-requires
-take-to-hyp-requires c κs = search needs
+send-to-hyp-requires : tie.Need-send-to-hyp-requires
+send-to-hyp-requires c κs = search needs
 
 same-length-2 : tie.Need-same-length-2
 same-length-2 c = search needs
@@ -64,10 +64,10 @@ returns-2 c =
     (sent _ SVC _ _ (refl, refl, refl, refl, refl) (c .before .before .before .before .before .before .before .before .before .before .before .before .before .before .before .before .before .before .before .pre .0 .0) (c .before .before .before .before .before .before .before .before .before .before .before .before .before .before .before .before .before .before .before .pre .1) (told (c .before .before .before .before .before .before .before .before .before .before .before .before .before .before .before .before .beyond .ensures) (c .before .before .before .before .before .before .before .before .before .before .before .before .before .before .before .if1 .left)) HYP (offsetTo HYP (mode-field (c .before .before .before .before .before .before .before .before .before .before .before .before .before .before .before .before .before .before .before .args .cpsr)) 0x08) (c .before .before .before .before .before .before .before .before .before .before .before .before .before .before .before .before .before .before .before .pre .0 .2) (c .before .before .before .before .before .before .before .before .before .before .before .before .before .before .before .before .before .before .before .pre .0 .3) (c .before .before .before .before .before .before .before .before .before .get-word2 .ensures) (c .before .before .before .before .before .before .before .before .before .before .before .before .before .get-word .ensures)
     (next _ (c .before .before .before .before .before .before .before .before .before .before .before .before .before .before .before .before .before .before .before .args .cpsr) (c .before .before .before .before .before .before .before .before .before .before .before .before .narrow-of .ensures) (c .before .before .before .before .before .before .before .before .before .before .before .wrapping-add-u32 .ensures))
     (svc-to-hyp _ _ _ _ _ f (told (c .before .before .before .before .before .before .before .before .general-to-hyp .ensures) (c .before .before .before .before .before .before .before .if2 .taken))))
-    (c .before .before .before .before .take-to-hyp .ensures)
+    (c .before .before .before .before .send-to-hyp .ensures)
 
-take-requires : tie.Need-take-requires
-take-requires c κs = (c .before .before .before .before .before .before .before .before .before .before .before .before .before .before .pre .0, listed SUPERVISOR refl, lit< tt)
+send-requires : tie.Need-send-requires
+send-requires c κs = (c .before .before .before .before .before .before .before .before .before .before .before .before .before .before .pre .0, listed SUPERVISOR refl, lit< tt)
 
 same-length-4 : tie.Need-same-length-4
 same-length-4 c = search needs
@@ -83,7 +83,7 @@ returns-3 c =
     (sent _ SVC _ _ (refl, refl, refl, refl, refl) (c .before .before .before .before .before .before .before .before .before .before .before .before .before .before .before .before .before .before .before .pre .0 .0) (c .before .before .before .before .before .before .before .before .before .before .before .before .before .before .before .before .before .before .before .pre .1) (told (c .before .before .before .before .before .before .before .before .before .before .before .before .before .before .before .before .beyond .ensures) (c .before .before .before .before .before .before .before .before .before .before .before .before .before .before .before .if1 .left)) SUPERVISOR 0x08 (c .before .before .before .before .before .before .before .before .before .before .before .before .before .before .before .before .before .before .before .pre .0 .2) (c .before .before .before .before .before .before .before .before .before .before .before .before .before .before .before .before .before .before .before .pre .0 .3) (c .before .before .before .before .before .before .before .before .before .get-word2 .ensures) (c .before .before .before .before .before .before .before .before .before .before .before .before .before .get-word .ensures)
     (next _ (c .before .before .before .before .before .before .before .before .before .before .before .before .before .before .before .before .before .before .before .args .cpsr) (c .before .before .before .before .before .before .before .before .before .before .before .before .narrow-of .ensures) (c .before .before .before .before .before .before .before .before .before .before .before .wrapping-add-u32 .ensures))
     (svc-to-own _ _ _ _ _ f (told (c .before .before .before .before .before .before .before .before .general-to-hyp .ensures) (c .before .before .before .before .before .before .before .if2 .left))))
-    (c .before .before .before .before .take .ensures)
+    (c .before .before .before .before .send .ensures)
 
 pub svc-spec : {M : Type 1} → statement M
 svc-spec =
@@ -98,11 +98,11 @@ svc-spec =
     wrapping-add-u32-requires
     get-word-requires-2
     general-to-hyp-requires
-    take-to-hyp-requires
+    send-to-hyp-requires
     same-length-2
     same-length-3
     returns-2
-    take-requires
+    send-requires
     same-length-4
     same-length-5
     returns-3)

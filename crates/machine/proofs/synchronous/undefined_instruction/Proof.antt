@@ -41,8 +41,8 @@ get-word-requires-2 c κs = search needs
 general-to-hyp-requires : tie.Need-general-to-hyp-requires
 general-to-hyp-requires c κs = search needs
 
-take-to-hyp-requires : tie.Need-take-to-hyp-requires
-take-to-hyp-requires c κs = search needs
+send-to-hyp-requires : tie.Need-send-to-hyp-requires
+send-to-hyp-requires c κs = search needs
 
 same-length-2 : tie.Need-same-length-2
 same-length-2 c = search needs
@@ -57,7 +57,7 @@ returns-2 c =
     same-action _
     (sent _ UNDEFINED-INSTRUCTION _ _ (refl, refl, refl, refl, refl) (c .before .before .before .before .before .before .before .before .before .before .before .before .before .before .before .before .before .pre .0 .0) (c .before .before .before .before .before .before .before .before .before .before .before .before .before .before .before .before .before .pre .1) (told (c .before .before .before .before .before .before .before .before .before .before .before .before .before .before .beyond .ensures) (c .before .before .before .before .before .before .before .before .before .before .before .before .before .if1 .left)) HYP (offsetTo HYP (mode-field (c .before .before .before .before .before .before .before .before .before .before .before .before .before .before .before .before .before .args .cpsr)) 0x04) (c .before .before .before .before .before .before .before .before .before .before .before .before .before .before .before .before .before .pre .0 .2) (c .before .before .before .before .before .before .before .before .before .before .before .before .before .before .before .before .before .pre .0 .3) (c .before .before .before .before .before .before .before .before .before .get-word2 .ensures) (c .before .before .before .before .before .before .before .before .before .before .before .get-word .ensures) refl
     (undefined-to-hyp _ _ _ _ _ f (told (c .before .before .before .before .before .before .before .before .general-to-hyp .ensures) (c .before .before .before .before .before .before .before .if2 .taken))))
-    (c .before .before .before .before .take-to-hyp .ensures)
+    (c .before .before .before .before .send-to-hyp .ensures)
 
 narrow-of-requires : tie.Need-narrow-of-requires
 narrow-of-requires c κs = search needs
@@ -65,8 +65,8 @@ narrow-of-requires c κs = search needs
 wrapping-add-u32-requires : tie.Need-wrapping-add-u32-requires
 wrapping-add-u32-requires c κs = search needs
 
-take-requires : tie.Need-take-requires
-take-requires c κs = (c .before .before .before .before .before .before .before .before .before .before .before .before .before .before .pre .0, listed UNDEFINED refl, lit< tt)
+send-requires : tie.Need-send-requires
+send-requires c κs = (c .before .before .before .before .before .before .before .before .before .before .before .before .before .before .pre .0, listed UNDEFINED refl, lit< tt)
 
 same-length-4 : tie.Need-same-length-4
 same-length-4 c = search needs
@@ -82,7 +82,7 @@ returns-3 c =
     (sent _ UNDEFINED-INSTRUCTION _ _ (refl, refl, refl, refl, refl) (c .before .before .before .before .before .before .before .before .before .before .before .before .before .before .before .before .before .before .before .pre .0 .0) (c .before .before .before .before .before .before .before .before .before .before .before .before .before .before .before .before .before .before .before .pre .1) (told (c .before .before .before .before .before .before .before .before .before .before .before .before .before .before .before .before .beyond .ensures) (c .before .before .before .before .before .before .before .before .before .before .before .before .before .before .before .if1 .left)) UNDEFINED 0x04 (c .before .before .before .before .before .before .before .before .before .before .before .before .before .before .before .before .before .before .before .pre .0 .2) (c .before .before .before .before .before .before .before .before .before .before .before .before .before .before .before .before .before .before .before .pre .0 .3) (c .before .before .before .before .before .before .before .before .before .before .before .get-word2 .ensures) (c .before .before .before .before .before .before .before .before .before .before .before .before .before .get-word .ensures)
     (next _ (c .before .before .before .before .before .before .before .before .before .before .before .before .before .before .before .before .before .before .before .args .cpsr) (c .before .before .before .before .before .before .before .before .narrow-of .ensures) (c .before .before .before .before .before .before .before .wrapping-add-u32 .ensures))
     (undefined-to-own _ _ _ _ _ f (told (c .before .before .before .before .before .before .before .before .before .before .general-to-hyp .ensures) (c .before .before .before .before .before .before .before .before .before .if2 .left))))
-    (c .before .before .before .before .take .ensures)
+    (c .before .before .before .before .send .ensures)
 
 pub undefined-instruction-spec : {M : Type 1} → statement M
 undefined-instruction-spec =
@@ -95,13 +95,13 @@ undefined-instruction-spec =
     get-word-requires
     get-word-requires-2
     general-to-hyp-requires
-    take-to-hyp-requires
+    send-to-hyp-requires
     same-length-2
     same-length-3
     returns-2
     narrow-of-requires
     wrapping-add-u32-requires
-    take-requires
+    send-requires
     same-length-4
     same-length-5
     returns-3)
