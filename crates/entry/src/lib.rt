@@ -1,4 +1,5 @@
-// Exception entry: where a synchronous event goes, and what an entry writes. Nothing here knows of interrupts or refusals.
+// Exception entry: what the routing of a synchronous event asks, and what an entry writes. Nothing here knows of interrupts
+// or refusals.
 pub mod code;
 pub mod enter;
 pub mod offset;

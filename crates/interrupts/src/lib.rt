@@ -1,4 +1,5 @@
-// The interrupt check: which exceptions are pending, which of them can be taken, and where the first of these goes.
+// The interrupt check: which exceptions are pending, which of them can be taken, and whether the first goes to Hyp. The entry
+// itself is in `machine`.
 pub mod check;
 pub mod exception;
 pub mod takeable;

@@ -134,14 +134,6 @@ module _ (b : List ℕ) (a w : ℕ) (size : length b ≡ BLOCK-SIZE) (good : fau
   at-write h =
       rw (s, k, g, h) (accessed-by (cell a is NO-PLACE) (right (cell a) (word b CPSR) (word b SCR)) (Put (cell a) w))
 
-  -- a note: by the fault of the block that it would make
-  noted-by : (u v : Bool) (x : Action)
-      → (if firstOf (record { applies = u; number = BAD-MODE } ∷ record { applies = v; number = BAD-STATE } ∷ []) DONE is DONE then x else
-      Refuse (firstOf (record { applies = u; number = BAD-MODE } ∷ record { applies = v; number = BAD-STATE } ∷ []) DONE))
-      ≡ (if (if u then BAD-MODE else (if v then BAD-STATE else DONE)) is DONE then x else
-      Refuse (if u then BAD-MODE else (if v then BAD-STATE else DONE)))
-  noted-by u v x = refl
-
   -- the words of the block that a note would make
   noted-word : (p : ℕ) → p < PLACES → a < PLACES → w < 2 ^ 32 → word (put b a w) p ≡ notedWord a w p (word b p)
   noted-word p lp la lw = by (a is p) refl

@@ -47,17 +47,6 @@ module _ (b : List ℕ) (code a w : ℕ) (k : Synchronously code) (size : length
       → l ≡ n → Enter to offset n ≡ way code a cpsr scr hcr pc → Take Synchronous to offset l ≡ action b (event code a w)
   sent to offset ec es eh ep h e = ap (Take Synchronous to offset) h ∙ on-its-way ec es eh ep e
 
--- of two tests
-pub first-of-two : (x y : Bool) → x ≡ true → (x || y) ≡ true
-first-of-two x y h = rw h
-
-pub second-of-two : (x y : Bool) → y ≡ true → (x || y) ≡ true
-second-of-two true y h = refl
-second-of-two false y h = h
-
-pub neither : (x y : Bool) → x ≡ false → y ≡ false → (x || y) ≡ false
-neither x y h k = rw (h, k)
-
 -- an address with the length of a narrow instruction added
 pub next : (pc cpsr : ℕ) {n l : ℕ} → n ≡ narrow cpsr → l ≡ wrap pc n → l ≡ wrap pc (narrow cpsr)
 next pc cpsr e h = h ∙ ap (wrap pc) e

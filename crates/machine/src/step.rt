@@ -3,7 +3,7 @@
 //
 // `step` and `replay` are the same step. There are two because the compiler makes a function that is called from one place
 // part of that place: with one, all twelve events would share a single body, and every step would save and restore the
-// registers of the dearest (docs/DECISIONS.md, "Figures").
+// registers of the dearest (docs/DECISIONS.md, "Shape").
 ghost use mathlib.Core.Path.{_≡_};
 ghost use Prim.Native.Nat.{_<_, _^_};
 ghost use lib.ListN.{length};

@@ -45,12 +45,16 @@ told-still {r} e h = sym e ∙ not-false r h
 pub told-both : {r p q x y t : Bool} → p ≡ x → q ≡ y → r ≡ (p && q) → r ≡ t → (x && y) ≡ t
 told-both d e f h = cc
 
-pub told-either : {r p q x y t : Bool} → p ≡ x → q ≡ y → r ≡ (p || q) → r ≡ t → (x || y) ≡ t
-told-either d e f h = cc
+-- of two tests, one or neither
+pub first-of-two : (x y : Bool) → x ≡ true → (x || y) ≡ true
+first-of-two x y h = rw h
 
-pub told-both-either : {r s u v e x y z t : Bool} → s ≡ x → u ≡ y → v ≡ z → e ≡ (u || v) → r ≡ (s && e) → r ≡ t
-    → (x && (y || z)) ≡ t
-told-both-either a b c d e h = cc
+pub second-of-two : (x y : Bool) → y ≡ true → (x || y) ≡ true
+second-of-two true y h = refl
+second-of-two false y h = h
+
+pub neither : (x y : Bool) → x ≡ false → y ≡ false → (x || y) ≡ false
+neither x y h k = rw (h, k)
 
 -- are two tests the same?
 abbrev pub same : Bool → Bool → Bool

@@ -6,11 +6,11 @@ use Rattle.entry.specs.Code.{HVC}
 use Rattle.entry.specs.Route.{offsetTo}
 use Rattle.machine.proofs.Carrying.{same-action, refused}
 use Rattle.machine.proofs.Deciding.{bad-event}
-use Rattle.machine.proofs.Routing.{not-here, sent, first-of-two, second-of-two, neither}
+use Rattle.machine.proofs.Routing.{not-here, sent}
 use Rattle.machine.proofs.synchronous.hvc.Statement.{statement}
 use Rattle.machine.proofs.synchronous.hvc.Tie as tie
 use Rattle.machine.specs.Event.{badEvent}
-use Rattle.state.proofs.Test.{told}
+use Rattle.state.proofs.Test.{told, first-of-two, second-of-two, neither}
 use Rattle.state.specs.Choice.{_is_}
 use Rattle.state.specs.Field.{mode-field}
 use Rattle.state.specs.Mode.{USER, HYP}
