@@ -1,9 +1,10 @@
 /*
- * The archive's step against the second implementation's, on random blocks
- * and events: number, block, answer bytes and guard bytes.
+ * The step behind the header against another, on random blocks and events:
+ * number, block, answer bytes and guard bytes.
  *
  *     compare [MILLIONS SEED]
  *
+ * The other is the second implementation's, unless OTHER_STEP says otherwise.
  * Prints how often each thing was met and fails where one was met too seldom.
  */
 #include "chance.h"
@@ -11,6 +12,7 @@
 #include "lent.h"
 #include "pomurica.h"
 
+#include "../bench/speed.h"
 #include "../second/second.h"
 #include "../second/words.h"
 
@@ -18,6 +20,11 @@
 #include <stdio.h>
 #include <stdlib.h>
 #include <string.h>
+
+/* Unless the compiler is told fast_step, the one of bench/. */
+#ifndef OTHER_STEP
+#define OTHER_STEP second_step
+#endif
 
 /* Unless the arguments say otherwise. */
 #define MILLIONS 5
@@ -103,15 +110,15 @@ static void tell(const struct question *question)
     printf("\n");
 }
 
-/* Whether both answer the question alike; ours is then what the archive did. */
+/* Whether both answer the question alike; ours is then what the step behind the header did. */
 static bool agree(const struct question *question, struct call *ours)
 {
     struct call theirs;
     bool right;
 
     call_step(pomurica_step, question, ours);
-    call_step(second_step, question, &theirs);
-    right = check(ours->number == theirs.number, "number %" PRIu32 ", second %" PRIu32,
+    call_step(OTHER_STEP, question, &theirs);
+    right = check(ours->number == theirs.number, "number %" PRIu32 ", the other %" PRIu32,
                   ours->number, theirs.number);
     right &= check(are_same(&ours->block, &theirs.block), "the blocks differ");
     right &= check(are_same(&ours->answer, &theirs.answer), "the answers differ");

@@ -1,10 +1,11 @@
 /*
- * The archive's checker against the second implementation's, on traces of
- * chance, honest and damaged: number, place, Steps, guard bytes, and a trace
- * that stays as it was.
+ * The checker behind the header against another, on traces of chance, honest
+ * and damaged: number, place, Steps, guard bytes, and a trace that stays as it
+ * was.
  *
  *     compare_traces [THOUSANDS SEED]
  *
+ * The other is the second implementation's, unless OTHER_CHECK says otherwise.
  * Prints how often each number was given and fails where one was too seldom.
  */
 #include "chance.h"
@@ -14,6 +15,7 @@
 #include "pomurica.h"
 #include "traces.h"
 
+#include "../bench/speed.h"
 #include "../second/second.h"
 #include "../second/words.h"
 
@@ -21,6 +23,11 @@
 #include <stdio.h>
 #include <stdlib.h>
 #include <string.h>
+
+/* Unless the compiler is told fast_check, the one of bench/. */
+#ifndef OTHER_CHECK
+#define OTHER_CHECK second_check
+#endif
 
 /* Unless the arguments say otherwise. */
 #define THOUSANDS 40
@@ -55,15 +62,15 @@ static void call_check(check_function *judge, const uint8_t *trace, size_t lengt
     call->trace_kept = memcmp(lent_trace, trace, length) == 0;
 }
 
-/* Whether both checkers give the same; ours is then what the archive gave. */
+/* Whether both checkers give the same; ours is then what the one behind the header gave. */
 static bool agree(const uint8_t *trace, size_t length, size_t report_len, struct call *ours)
 {
     struct call theirs;
     bool right;
 
     call_check(pomurica_check, trace, length, report_len, ours);
-    call_check(second_check, trace, length, report_len, &theirs);
-    right = check(ours->number == theirs.number, "number %" PRIu32 ", second %" PRIu32,
+    call_check(OTHER_CHECK, trace, length, report_len, &theirs);
+    right = check(ours->number == theirs.number, "number %" PRIu32 ", the other %" PRIu32,
                   ours->number, theirs.number);
     right &= check(memcmp(bytes_of(&ours->report), bytes_of(&theirs.report), report_len) == 0,
                    "the reports differ");

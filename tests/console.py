@@ -1,8 +1,9 @@
 #!/usr/bin/env python3
-"""console.py [--plain] FOLDER LINES COMMAND...: tries the console program as a user does.
+"""console.py KIND FOLDER LINES COMMAND...: tries the console program as a user does.
 
-COMMAND runs the console. FOLDER holds traces, honest and damaged, and LINES what it has to print for them. With --plain
-the program is neither emulated nor sanitized, so that its memory can be limited. Ends with `N passed, M failed`.
+COMMAND runs the console. FOLDER holds traces, honest and damaged, and LINES what it has to print for them. KIND says how the
+program runs: emulated; plain, and then it is tried with little memory too; or sanitized, and then a few runs look for leaks
+too. Ends with `N passed, M failed`.
 """
 import os
 import pty
@@ -19,11 +20,11 @@ SHORTEST = b'\xb8\0\1\0' + bytes(180) + b'\x08\0\3\0' + bytes(4)
 USAGE = b'usage: console'
 SAMPLES = os.path.join(os.path.dirname(os.path.dirname(os.path.abspath(__file__))), 'samples')
 
-plain = sys.argv[1] == '--plain'
-if plain:
-    del sys.argv[1]
-FOLDER, LINES, COMMAND = sys.argv[1], sys.argv[2], sys.argv[3:]
+KIND, FOLDER, LINES, COMMAND = sys.argv[1], sys.argv[2], sys.argv[3], sys.argv[4:]
 results = []
+
+# Looking for leaks takes some 4 s a run on Arm, whatever the program does. The many runs do without; try_leaks looks.
+os.environ['ASAN_OPTIONS'] = 'detect_leaks=0'
 
 
 def run(*arguments, **options):
@@ -131,6 +132,16 @@ def try_memory():
     expect_run('no memory', ['good'], 2, b'', b'console: no memory', preexec_fn=limit)
 
 
+def try_leaks():
+    """Runs that look for leaks, one of each kind. They end and print as they do without: a leak would be told."""
+    honest, wrong = (os.path.join(SAMPLES, name) for name in ('honest.trace', 'stale-spsr.trace'))
+    looking = {**os.environ, 'ASAN_OPTIONS': 'detect_leaks=1'}
+    for arguments in [[honest], [wrong], ['--explain', wrong], ['--trace', honest], ['--html', honest], ['--html', wrong],
+                      ['missing', honest]]:
+        seen = run(*arguments, env=looking)
+        expect(f'no leak: {" ".join(map(os.path.basename, arguments))}', seen == run(*arguments), (seen[0], seen[2]))
+
+
 def parted(out):
     """The lines of verdicts, and for each how many lines are told under it."""
     verdicts, told = b'', []
@@ -182,14 +193,14 @@ def page_of(name, shown=None, **options):
     """The page of a file, with its faults: it has to say what the console says in lines, and nothing else."""
     shown = name if shown is None else shown
     status, out, err = run('--html', name, **options)
-    line_status, lines, _ = run('--explain', '--trace', name, **options)
+    line_status, lines, line_err = run('--explain', '--trace', name, **options)
     line, *lines = lines.decode(errors='replace').rstrip('\n').split('\n')
     page = Page(out)
-    verdict = line.rsplit(': ', 1)[1]
-    if (status, err, page.verdict) != (line_status, b'', f'{shown}: {verdict}'):
-        page.fault((status, err, page.verdict))
+    said = f'{shown}: {line.rpartition(": ")[2]}'
+    if (status, err + line_err, page.title, page.verdict) != (line_status, b'', said, said):
+        page.faults.insert(0, (status, err + line_err, page.title, page.verdict))
+        return page
     compare_telling(page, lines)
-    page.faults += sorted(page.strange_words(shown))
     if page.steps:
         with open(name, 'rb') as file:
             page.faults += page.wrong_changes(file.read())
@@ -301,14 +312,16 @@ with tempfile.TemporaryDirectory() as room:
     try_input()
     try_output()
     try_telling()
-    if plain:
-        try_memory()
     try_folder()
     try_pages()
     try_unjudged()
     try_long_pages()
     try_page_names()
     try_page_usage()
+    if KIND == 'plain':
+        try_memory()
+    if KIND == 'sanitized':
+        try_leaks()
     os.chdir('/')
 print(f'{results.count(True)} passed, {results.count(False)} failed')
 sys.exit(0 if all(results) else 1)

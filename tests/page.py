@@ -1,35 +1,33 @@
 """What a page of `console --html` says, and what is wrong with it as a page, read by the standard library's parser."""
 import html.parser
-import os
 import re
 import struct
 
-HOST = os.path.join(os.path.dirname(os.path.dirname(os.path.abspath(__file__))), 'host')
+from sentences import NUMBER, REGISTERS, SAID, any_of
 
-# The only elements that a page is made of, and their attributes.
+# The only elements that a page is made of.
 ELEMENTS = set('html head meta title style body header h1 h2 bdi pre p a section ul li div svg path rect text '
                'details summary span b table tr th td'.split())
-ATTRIBUTES = set('lang charset http-equiv content name class id href tabindex role aria-label aria-hidden viewbox '
-                 'd x y width height open'.split())
 EMPTY = {'meta'}
 LANES = {'monitor', 'hyp', 'guest', 'secure', 'none'}
-REGISTERS = ('R8_usr R9_usr R10_usr R11_usr R12_usr SP_usr LR_usr R8_fiq R9_fiq R10_fiq R11_fiq R12_fiq SP_fiq LR_fiq '
-             'LR_irq SP_irq LR_svc SP_svc LR_abt SP_abt LR_und SP_und LR_mon SP_mon ELR_hyp SP_hyp SPSR_fiq SPSR_irq '
-             'SPSR_svc SPSR_abt SPSR_und SPSR_mon SPSR_hyp CPSR PC SCR HCR SCTLR_s SCTLR_ns HSCTLR VBAR_s VBAR_ns '
-             'HVBAR MVBAR').split()
 POLICY = "default-src 'none'; style-src 'unsafe-inline'"
 
+# Where the file's name stands, and nowhere else.
+TITLE, NAME = ['html', 'head', 'title'], ['html', 'body', 'header', 'h1', 'bdi']
 
-def own_words():
-    """Every word of the console's sources: a page says nothing else but these and numbers."""
-    sources = ''
-    for name in os.listdir(HOST):
-        with open(os.path.join(HOST, name), encoding='utf-8') as file:
-            sources += file.read()
-    return set(re.findall(r'[A-Za-z]\w*', sources))
+# The only attributes, and what they may be.
+ATTRIBUTES = {
+    'lang': 'en', 'charset': 'utf-8', 'name': 'viewport', 'http-equiv': 'Content-Security-Policy',
+    'content': any_of(re.escape(POLICY), 'width=device-width, initial-scale=1'),
+    'class': '[a-z -]+', 'id': f's{NUMBER}|wrong', 'href': f'#(s{NUMBER}|wrong)', 'tabindex': '-1', 'open': '',
+    'role': 'img', 'aria-label': f'modes, Step {NUMBER} and on', 'aria-hidden': 'true', 'viewbox': f'0 0 {NUMBER} {NUMBER}',
+    'd': '[Mhvlmz0-9 -]+', 'x': NUMBER, 'y': NUMBER, 'width': NUMBER, 'height': NUMBER,
+}
 
 
-OWN_WORDS = own_words()
+def may_be(patterns, name, text):
+    """Whether the text of an element or an attribute is what its pattern allows."""
+    return name in patterns and re.fullmatch(patterns[name], text) is not None
 
 
 def changed_words(trace, place):
@@ -40,12 +38,12 @@ def changed_words(trace, place):
 
 
 class Page(html.parser.HTMLParser):
-    """A page: its faults, its verdict, its text, its marks, and the Steps that it lists."""
+    """A page: its faults, its title, its verdict, its text, its marks, and the Steps that it lists."""
 
     def __init__(self, content):
         super().__init__()
         self.faults, self.open, self.ids, self.links = [], [], [], []
-        self.verdict, self.style, self.policy = '', '', ''
+        self.title, self.verdict, self.style, self.policy = '', '', '', ''
         self.pieces = []  # of the text
         self.marks = {'entry': 0, 'refusal': 0}
         self.bars, self.columns = [[]], []  # of each picture: where bars begin and end, with their styles; of each Step
@@ -80,10 +78,8 @@ class Page(html.parser.HTMLParser):
     def handle_startendtag(self, tag, attrs):
         given = dict(attrs)
         self.pieces.append(' ')
-        if tag not in ELEMENTS or not set(given) <= ATTRIBUTES:
+        if tag not in ELEMENTS or not all(may_be(ATTRIBUTES, name, given[name] or '') for name in given):
             self.fault((tag, attrs))
-        if not re.fullmatch(r'[Mhvlmz0-9 -]*', given.get('d', '')):
-            self.fault(given['d'])
         self.ids += [given['id']] if 'id' in given else []
         self.links += [given['href']] if 'href' in given else []
         if 'http-equiv' in given:
@@ -121,24 +117,32 @@ class Page(html.parser.HTMLParser):
             self.fault(f'</{tag}> in {self.open}')
 
     def handle_data(self, data):
-        if 'style' in self.open:
+        element = self.open[-1] if self.open else ''
+        if self.open == TITLE:
+            self.title += data
+        elif element == 'style':
             self.style += data
-            return
-        self.pieces.append(data)
+            self.judge_lines(element, re.findall('content: "(.*?)"', data))
+        else:
+            self.pieces.append(data)
+            self.keep(element, data)
+            self.judge_lines(element, data.splitlines() if self.open != NAME else [])
+
+    def judge_lines(self, element, lines):
+        """What an element says, line by line, against the sentences."""
+        self.faults += [f'{element}: {line}' for line in lines if line.strip() and not may_be(SAID, element, line.strip())]
+
+    def keep(self, element, data):
+        """A text that belongs to the verdict or to a Step."""
         if 'h1' in self.open:
             self.verdict += data
-        elif 'summary' in self.open:
+        elif 'summary' in self.open and 'span' in self.open:
             self.steps[-1][1][-1] += data
-        elif 'table' in self.open and data.strip():
+        elif element in ('th', 'td'):
             self.steps[-1][2][-1][-1] += data
 
     def handle_comment(self, data):
         self.fault(f'a comment: {data}')
-
-    def strange_words(self, name):
-        """What the page says that is neither a number, nor a word of the console's, nor the file's name."""
-        text = re.sub(r'0x[0-9A-F]+', ' ', self.text.replace(name, ' '))
-        return set(re.findall(r'[^\W\d]\w*', text)) - OWN_WORDS
 
     def drawn_lanes(self):
         """The lane of each Step that has a column of its own, by the style of the bars that stand there."""

@@ -9,7 +9,7 @@ use lib.Dec.{eqb, ltb}
 use lib.ListN.{getD, length, List·getD-eq-default}
 use borrow.Author.Tests.{eqb-true, eq-eqb, ne-eqb, ltb-true}
 use Rattle.state.specs.Place.{NO-PLACE}
-use Rattle.state.proofs.Test.{anyEntry, at-entry, anyBelow, at-below, implies, implied, both}
+use Rattle.state.proofs.Test.{everyEntry, at-entry, everyBelow, at-below, implies, implied, both}
 use Rattle.banked.specs.Cell.{cell, F5-116, F5-117}
 
 abbrev pub cells : List ℕ
@@ -51,5 +51,5 @@ cells-apart a a′ h h′ n e =
     let test : ℕ → ℕ → Bool = λ a a′. implies (not (eqb (cell a) NO-PLACE) && eqb (cell a) (cell a′)) (eqb a a′) in
     eqb-true a a′
     (implied (not (eqb (cell a) NO-PLACE) && eqb (cell a) (cell a′)) (eqb a a′)
-    (at-below 64 (test a) (at-below 64 (λ a. anyBelow 64 (test a)) refl a h) a′ h′)
+    (at-below 64 (test a) (at-below 64 (λ a. everyBelow 64 (test a)) refl a h) a′ h′)
     (both {a = not (eqb (cell a) NO-PLACE)} (rw (ne-eqb (cell a) NO-PLACE n)) (eq-eqb (cell a) (cell a′) e)))

@@ -13,7 +13,7 @@ use Rattle.state.specs.Mode.{USER, MONITOR}
 use Rattle.state.specs.State.{secure}
 use Rattle.state.specs.Place.{R8-usr, R9-usr, R10-usr, R11-usr, R12-usr, SP-hyp, SPSR-hyp}
 use Rattle.state.proofs.Sets.{inSet, among-out}
-use Rattle.state.proofs.Test.{same, same-eq, anyBelow, at-below, anyBit, at-bit}
+use Rattle.state.proofs.Test.{same, same-eq, everyBelow, at-below, everyBit, at-bit}
 use Rattle.banked.specs.Parts.{deniedSet}
 use Rattle.banked.specs.Right.{denied, fiq-registers, irq-registers, svc-registers, abt-registers, und-registers, mon-registers}
 
@@ -24,11 +24,11 @@ place-of m ns = m + (if ns then 32 else 0)
 abbrev agrees : ℕ → ℕ → Bool → Bool
 agrees p m ns = same (inSet (deniedSet p) (place-of m ns)) (denied p m (not ns || m is MONITOR))
 
-tried : anyBelow 33 (λ p. anyBelow 32 (λ m. anyBit (agrees p m))) ≡ true
+tried : everyBelow 33 (λ p. everyBelow 32 (λ m. everyBit (agrees p m))) ≡ true
 unfolding deniedSet denied
 tried = refl
 
-tried-user : anyBelow 32 (λ m. anyBit (λ ns. same (inSet 0x0001000000010000 (place-of m ns)) (m is USER))) ≡ true
+tried-user : everyBelow 32 (λ m. everyBit (λ ns. same (inSet 0x0001000000010000 (place-of m ns)) (m is USER))) ≡ true
 tried-user = refl
 
 -- a place past the registers stands in none of the lists
@@ -76,14 +76,14 @@ set-says p m ns l = by (ltb p 33) refl
     by true e =
         same-eq (inSet (deniedSet p) (place-of m ns)) (denied p m (not ns || m is MONITOR))
         (at-bit (agrees p m)
-        (at-below 32 (λ m. anyBit (agrees p m))
-        (at-below 33 (λ p. anyBelow 32 (λ m. anyBit (agrees p m))) tried p (ltb-true p 33 e)) m l) ns)
+        (at-below 32 (λ m. everyBit (agrees p m))
+        (at-below 33 (λ p. everyBelow 32 (λ m. everyBit (agrees p m))) tried p (ltb-true p 33 e)) m l) ns)
     by false e =
         let h = ltb-false p 33 e in
         rw (set-out p h, denied-out p h m (not ns || m is MONITOR))
         (same-eq (inSet 0x0001000000010000 (place-of m ns)) (m is USER)
         (at-bit (λ ns. same (inSet 0x0001000000010000 (place-of m ns)) (m is USER))
-        (at-below 32 (λ m. anyBit (λ ns. same (inSet 0x0001000000010000 (place-of m ns)) (m is USER))) tried-user m l)
+        (at-below 32 (λ m. everyBit (λ ns. same (inSet 0x0001000000010000 (place-of m ns)) (m is USER))) tried-user m l)
         ns))
 
 -- the code's bit is that of the mode and NS

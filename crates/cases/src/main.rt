@@ -2,8 +2,8 @@
 // in the paper's notation; what it must say stands in the file stdout, written by hand from the paper.
 ghost use Prim.Native.Nat.{_≤_, _<_};
 use libc::STDOUT_FILENO;
-use machine::event::Event;
-use machine::verdict::Answer;
+use rules::event::Event;
+use rules::verdict::Answer;
 use state::place;
 use words::get_word;
 use words::put_word;

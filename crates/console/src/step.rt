@@ -1,6 +1,6 @@
 // One step for C: a lent block of 176 bytes, an event, and a lent answer buffer of 8.
 ghost use mathlib.Core.Path.{_≡_};
-ghost use Rattle.machine.specs.Step.{numberReturned, blockLeft, answerLeft};
+ghost use Rattle.rules.specs.Step.{numberReturned, blockLeft, answerLeft};
 
 // The number is returned, and number and value are written to the answer buffer. On BAD_SIZE neither buffer changes.
 #[no_mangle]

@@ -15,7 +15,8 @@ use Rattle.state.specs.Mode.{HYP, MONITOR, targets, isTarget, spsrPlace, lrPlac
 use Rattle.state.specs.Place.{PLACES, BLOCK-SIZE, CPSR, PC, SCR, HCR}
 use Rattle.state.proofs.Laws.{flag-moved}
 use Rattle.state.proofs.Test.{at-one}
-use Rattle.entry.specs.Enter.{nsCleared, setsA, setsI, setsF, masksAfter, cpsrAfter, controlPlace, vectorBase, vector, written, entered}
+use Rattle.entry.specs.Enter.{setsA, setsI, setsF, masksAfter, cpsrAfter}
+use Rattle.entry.specs.Enter.{nsCleared, controlPlace, vectorBase, vector, written, entered}
 use Rattle.entry.specs.Route.{wrap}
 
 -- ---- the new CPSR word fits, has the target's mode, and has bits 24 to 21 clear

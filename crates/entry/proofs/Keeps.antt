@@ -17,11 +17,13 @@ use Rattle.state.specs.Number.{DONE}
 use Rattle.state.specs.Place.{BLOCK-SIZE, CPSR, PC, SCR, HCR}
 use Rattle.state.specs.State.{fault, faultOf}
 use Rattle.state.proofs.Good.{stands, good-by-parts, Good, parts-of-good}
-use Rattle.state.proofs.Test.{and-left, and-right, both, implies, implied, anyBit, at-bit, anyOf, at-one}
-use Rattle.entry.specs.Code.{UNDEFINED-INSTRUCTION, SVC, SMC, HVC, PREFETCH-ABORT, DATA-ABORT, HYP-TRAP, MONITOR-TRAP, isSynchronous, isAbort, isGeneral, external, stage2}
+use Rattle.state.proofs.Test.{and-left, and-right, both, implies, implied, everyBit, at-bit, everyOf, at-one}
+use Rattle.entry.specs.Code.{UNDEFINED-INSTRUCTION, SVC, SMC, HVC, PREFETCH-ABORT, DATA-ABORT, HYP-TRAP, MONITOR-TRAP}
+use Rattle.entry.specs.Code.{isSynchronous, isAbort, isGeneral, external, stage2}
 use Rattle.entry.specs.Enter.{nsCleared, cpsrAfter, controlPlace, vectorBase, vector, written, entered}
 use Rattle.entry.specs.Route.{ownMode, toMonitor, toHyp, target, notHere}
-use Rattle.entry.proofs.Entered.{after-mode, after-clear, its-number, spsr-low, lr-low, written-saved, written-link, written-pc, written-cpsr, written-other}
+use Rattle.entry.proofs.Entered.{after-mode, after-clear, its-number, spsr-low, lr-low}
+use Rattle.entry.proofs.Entered.{written-saved, written-link, written-pc, written-cpsr, written-other}
 
 -- ---- the rules over the mode and the bits alone
 
@@ -74,9 +76,9 @@ codes = UNDEFINED-INSTRUCTION ∷ SVC ∷ SMC ∷ HVC ∷ PREFETCH-ABORT ∷ DAT
 
 abbrev everywhere : ℕ → ℕ → Bool
 everywhere m code =
-    anyBit (λ ns. anyBit (λ ea. anyBit (λ tsc. anyBit (λ tge. anyBit (λ ext. anyBit (λ two. keeps m code ns ea tsc tge ext two))))))
+    everyBit (λ ns. everyBit (λ ea. everyBit (λ tsc. everyBit (λ tge. everyBit (λ ext. everyBit (keeps m code ns ea tsc tge ext))))))
 
-tried : anyOf modes (λ m. anyOf codes (everywhere m)) ≡ true
+tried : everyOf modes (λ m. everyOf codes (everywhere m)) ≡ true
 unfolding known el1
 tried = refl
 
@@ -91,14 +93,15 @@ target-stands code a cpsr scr hcr g c n =
     let tge = HCR-TGE hcr in
     let ext = external a in
     let two = stage2 a in
-    let at : everywhere m code ≡ true = at-one codes (everywhere m) (at-one modes (λ m. anyOf codes (everywhere m)) tried m (g .known-mode)) code c in
+    let at-mode = at-one modes (λ m. everyOf codes (everywhere m)) tried m (g .known-mode) in
+    let at : everywhere m code ≡ true = at-one codes (everywhere m) at-mode code c in
     let k : keeps m code ns ea tsc tge ext two ≡ true =
-    at-bit (λ two. keeps m code ns ea tsc tge ext two)
-    (at-bit (λ ext. anyBit (λ two. keeps m code ns ea tsc tge ext two))
-    (at-bit (λ tge. anyBit (λ ext. anyBit (λ two. keeps m code ns ea tsc tge ext two)))
-    (at-bit (λ tsc. anyBit (λ tge. anyBit (λ ext. anyBit (λ two. keeps m code ns ea tsc tge ext two))))
-    (at-bit (λ ea. anyBit (λ tsc. anyBit (λ tge. anyBit (λ ext. anyBit (λ two. keeps m code ns ea tsc tge ext two)))))
-    (at-bit (λ ns. anyBit (λ ea. anyBit (λ tsc. anyBit (λ tge. anyBit (λ ext. anyBit (λ two. keeps m code ns ea tsc tge ext two)))))) at
+    at-bit (keeps m code ns ea tsc tge ext)
+    (at-bit (λ ext. everyBit (keeps m code ns ea tsc tge ext))
+    (at-bit (λ tge. everyBit (λ ext. everyBit (keeps m code ns ea tsc tge ext)))
+    (at-bit (λ tsc. everyBit (λ tge. everyBit (λ ext. everyBit (keeps m code ns ea tsc tge ext))))
+    (at-bit (λ ea. everyBit (λ tsc. everyBit (λ tge. everyBit (λ ext. everyBit (keeps m code ns ea tsc tge ext)))))
+    (at-bit (λ ns. everyBit (λ ea. everyBit (λ tsc. everyBit (λ tge. everyBit (λ ext. everyBit (keeps m code ns ea tsc tge ext)))))) at
     ns) ea) tsc) tge) ext) two in
     let h : not (notHereB code m ns two) ≡ true = ap not (sym (here-bits code a cpsr scr) ∙ n) in
     rw (target-bits code a cpsr scr hcr)

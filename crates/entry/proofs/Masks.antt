@@ -7,7 +7,7 @@ use lib.Bits.{bitOr}
 use lib.Dec.{eqb, ltb}
 use borrow.Author.Tests.{eqb-true, ltb-true}
 use Rattle.state.specs.Field.{bit, flag}
-use Rattle.state.proofs.Test.{and-left, and-right, anyBelow, at-below, anyBit, at-bit}
+use Rattle.state.proofs.Test.{and-left, and-right, everyBelow, at-below, everyBit, at-bit}
 use Rattle.entry.specs.Enter.{setsA, setsI, setsF, masksAfter}
 use Rattle.entry.specs.Parts.{setsNumber}
 
@@ -22,9 +22,9 @@ joined o a i f =
 tried : (o : ℕ) (a i f : Bool) → o < 8 → joined o a i f ≡ true
 tried o a i f h =
     at-bit (joined o a i)
-    (at-bit (λ i. anyBit (joined o a i))
-    (at-bit (λ a. anyBit (λ i. anyBit (joined o a i)))
-    (at-below 8 (λ o. anyBit (λ a. anyBit (λ i. anyBit (joined o a i)))) refl o h)
+    (at-bit (λ i. everyBit (joined o a i))
+    (at-bit (λ a. everyBit (λ i. everyBit (joined o a i)))
+    (at-below 8 (λ o. everyBit (λ a. everyBit (λ i. everyBit (joined o a i)))) refl o h)
     a) i) f
 
 -- the old mask bits, as a number and each by itself

@@ -10,7 +10,8 @@ use Rattle.state.specs.Field.{mode-field, CPSR-T, SCR-EA, HCR-TSC, HCR-TGE}
 use Rattle.state.specs.Mode.{USER, SUPERVISOR, MONITOR, ABORT, HYP, UNDEFINED, el1, el1-modes}
 use Rattle.state.specs.State.{secure, nsEl1, nsUser}
 use Rattle.state.proofs.Test.{and-left, and-right, at-one}
-use Rattle.entry.specs.Code.{UNDEFINED-INSTRUCTION, SVC, SMC, HVC, PREFETCH-ABORT, DATA-ABORT, HYP-TRAP, MONITOR-TRAP, external, stage2}
+use Rattle.entry.specs.Code.{UNDEFINED-INSTRUCTION, SVC, SMC, HVC, PREFETCH-ABORT, DATA-ABORT, HYP-TRAP, MONITOR-TRAP}
+use Rattle.entry.specs.Code.{external, stage2}
 use Rattle.entry.specs.Parts.{narrow, generalToHyp, abortWay}
 use Rattle.entry.specs.Route.{wrap, offsetTo, linkTo, toMonitor, toHyp, target, offset, link, notHere, way}
 use Rattle.entry.specs.Way.{Way, NotHere, Enter}

@@ -1,9 +1,10 @@
 // An entry on a lent block (document 01, "Entry"). Only the words that change are written.
 ghost use mathlib.Core.Path.{_≡_};
-ghost use mathlib.Core.Bool.{true};
+ghost use mathlib.Core.Bool.{true, false};
 ghost use Prim.Native.Nat.{ℕ, _+_, _<_, _≤_};
 ghost use lib.ListN.{length};
 ghost use Rattle.words.specs.Word.{word};
+ghost use Rattle.state.specs.Choice.{_is_};
 ghost use Rattle.state.specs.Field.{flag, SCTLR-EE, SCTLR-TE};
 ghost use Rattle.state.specs.Mode.{HYP, isTarget};
 ghost use Rattle.state.specs.Place.{PLACES, BLOCK-SIZE, CPSR, SCR};
@@ -18,7 +19,6 @@ ghost use Rattle.entry.specs.Enter.{
 };
 ghost use Rattle.entry.specs.Parts.{setsNumber, ownPlace};
 use state::field::sctlr_v;
-use state::mode;
 use state::mode::Mode;
 use state::place;
 use state::state::is_monitor;
@@ -27,11 +27,11 @@ use words::get_word;
 use words::put_word;
 
 // NS is cleared first where the entry comes from Monitor and does not go to Hyp. The answer is SCR as it is then.
-fn clear_ns(block: &mut [u8], cpsr: u32, scr: u32, to: u32) -> u32
+fn clear_ns(block: &mut [u8], cpsr: u32, scr: u32, to: Mode) -> u32
     requires { ⌜ (length (now block) ≡ BLOCK-SIZE) × (cpsr ≡ word (now block) CPSR) × (scr ≡ word (now block) SCR) ⌝ }
-    ensures { λ r. ⌜ (now (block .exit) ≡ nsCleared (now (block .entry)) to) × (r ≡ word (now (block .exit)) SCR) ⌝ }
+    ensures { λ r. ⌜ (now (block .exit) ≡ nsCleared (now (block .entry)) (to .number)) × (r ≡ word (now (block .exit)) SCR) ⌝ }
 {
-    if to == Mode::HYP.number {
+    if to.is(Mode::HYP) {
         return scr;
     }
     if is_monitor(cpsr) {
@@ -61,25 +61,32 @@ fn hyp_sets(scr: u32) -> u32
 }
 
 // Those that an entry to another mode sets.
-fn own_sets(to: u32) -> u32
-    ensures { λ r. ⌜ ((to ≡ HYP → ⊥) → (scr : ℕ) → r ≡ setsNumber to scr) × (r < 8) ⌝ }
+fn own_sets(to: Mode) -> u32
+    ensures { λ r. ⌜ ((to .number is HYP) ≡ false → (scr : ℕ) → r ≡ setsNumber (to .number) scr) × (r < 8) ⌝ }
 {
-    match to {
-        mode::FIQ => 7,
-        mode::IRQ => 6,
-        mode::SUPERVISOR => 2,
-        mode::MONITOR => 7,
-        mode::ABORT => 6,
-        mode::UNDEFINED => 2,
-        _ => 0,
+    let n = to.number;
+    if n == Mode::MONITOR.number {
+        7
+    } else if n == Mode::FIQ.number {
+        7
+    } else if n == Mode::ABORT.number {
+        6
+    } else if n == Mode::IRQ.number {
+        6
+    } else if n == Mode::UNDEFINED.number {
+        2
+    } else if n == Mode::SUPERVISOR.number {
+        2
+    } else {
+        0
     }
 }
 
-fn sets(to: u32, scr: u32) -> u32
-    ensures { λ r. ⌜ r ≡ setsNumber to scr ⌝ }
+fn sets(to: Mode, scr: u32) -> u32
+    ensures { λ r. ⌜ r ≡ setsNumber (to .number) scr ⌝ }
     ensures small { λ r. ⌜ r < 8 ⌝ }
 {
-    if to == Mode::HYP.number {
+    if to.is(Mode::HYP) {
         hyp_sets(scr)
     } else {
         own_sets(to)
@@ -87,8 +94,8 @@ fn sets(to: u32, scr: u32) -> u32
 }
 
 // The mask bits after an entry: those that were set stay.
-fn masks_after(cpsr: u32, scr: u32, to: u32) -> u32
-    ensures { λ r. ⌜ r ≡ masksAfter cpsr scr to ⌝ }
+fn masks_after(cpsr: u32, scr: u32, to: Mode) -> u32
+    ensures { λ r. ⌜ r ≡ masksAfter cpsr scr (to .number) ⌝ }
     ensures small { λ r. ⌜ r < 512 ⌝ }
 {
     (cpsr / 64 % 8 | sets(to, scr)) * 64
@@ -104,14 +111,14 @@ fn t_and_e(sctlr: u32) -> u32
 }
 
 // CPSR after an entry.
-fn cpsr_after(cpsr: u32, scr: u32, sctlr: u32, to: u32) -> u32
-    ensures { λ r. ⌜ r ≡ cpsrAfter cpsr scr sctlr to ⌝ }
+fn cpsr_after(cpsr: u32, scr: u32, sctlr: u32, to: Mode) -> u32
+    ensures { λ r. ⌜ r ≡ cpsrAfter cpsr scr sctlr (to .number) ⌝ }
 {
     cpsr / 0x800_0000 % 32 * 0x800_0000
         + cpsr / 0x1_0000 % 16 * 0x1_0000
         + masks_after(cpsr, scr, to)
         + t_and_e(sctlr)
-        + to % 32
+        + to.number % 32
 }
 
 // Of a word that is banked by Security state, the place of the one in use: the Non-secure one's comes next.
@@ -124,28 +131,28 @@ fn own_place(secure: usize, scr: u32) -> usize
 }
 
 // The control word that an entry goes by; scr is the word of the block.
-fn control_of(block: &[u8], scr: u32, to: u32) -> u32
+fn control_of(block: &[u8], scr: u32, to: Mode) -> u32
     requires { ⌜ (length (now block) ≡ BLOCK-SIZE) × (scr ≡ word (now block) SCR) ⌝ }
-    ensures { λ r. ⌜ r ≡ word (now (block .entry)) (controlPlace (now (block .entry)) to) ⌝ }
+    ensures { λ r. ⌜ r ≡ word (now (block .entry)) (controlPlace (now (block .entry)) (to .number)) ⌝ }
 {
-    if to == Mode::HYP.number {
+    if to.is(Mode::HYP) {
         return get_word(block, place::HSCTLR);
     }
-    if to == Mode::MONITOR.number {
+    if to.is(Mode::MONITOR) {
         return get_word(block, place::SCTLR_S);
     }
     get_word(block, own_place(place::SCTLR_S, scr))
 }
 
 // The vector base, with its low bits; scr is the word of the block, and sctlr the control word.
-fn base_of(block: &[u8], scr: u32, to: u32, sctlr: u32) -> u32
+fn base_of(block: &[u8], scr: u32, to: Mode, sctlr: u32) -> u32
     requires { ⌜ (length (now block) ≡ BLOCK-SIZE) × (scr ≡ word (now block) SCR) ⌝ }
-    ensures { λ r. ⌜ r ≡ vectorBase (now (block .entry)) to sctlr ⌝ }
+    ensures { λ r. ⌜ r ≡ vectorBase (now (block .entry)) (to .number) sctlr ⌝ }
 {
-    if to == Mode::HYP.number {
+    if to.is(Mode::HYP) {
         return get_word(block, place::HVBAR);
     }
-    if to == Mode::MONITOR.number {
+    if to.is(Mode::MONITOR) {
         return get_word(block, place::MVBAR);
     }
     if sctlr_v(sctlr) {
@@ -155,28 +162,27 @@ fn base_of(block: &[u8], scr: u32, to: u32, sctlr: u32) -> u32
 }
 
 // The words of an entry, in a block whose NS is as it is after the entry.
-fn write_entry(block: &mut [u8], cpsr: u32, scr: u32, to: u32, offset: u32, link: u32)
-    requires { ⌜ (length (now block) ≡ BLOCK-SIZE) × (isTarget to ≡ true) × (scr ≡ word (now block) SCR) ⌝ }
-    ensures { λ _. ⌜ now (block .exit) ≡ written (now (block .entry)) cpsr to offset link ⌝ }
+fn write_entry(block: &mut [u8], cpsr: u32, scr: u32, to: Mode, offset: u32, link: u32)
+    requires { ⌜ (length (now block) ≡ BLOCK-SIZE) × (isTarget (to .number) ≡ true) × (scr ≡ word (now block) SCR) ⌝ }
+    ensures { λ _. ⌜ now (block .exit) ≡ written (now (block .entry)) cpsr (to .number) offset link ⌝ }
 {
     let sctlr = control_of(block, scr, to);
     let after = cpsr_after(cpsr, scr, sctlr, to);
     let start = base_of(block, scr, to, sctlr) / 32 % 0x800_0000 * 32;
-    let mode = Mode { number: to };
-    put_word(block, mode.spsr_place(), cpsr);
-    put_word(block, mode.lr_place(), link);
+    put_word(block, to.spsr_place(), cpsr);
+    put_word(block, to.lr_place(), link);
     put_word(block, place::CPSR, after);
     put_word(block, place::PC, wrapping_add_u32(start, offset));
 }
 
 // An entry to the mode `to` at an offset, with the word for its return address. Its callers have read CPSR and SCR, and
 // name the mode, so that the compiler makes an entry of its own for it, with its places and its masks as constants.
-pub fn enter(block: &mut [u8], cpsr: u32, scr: u32, to: u32, offset: u32, link: u32)
+pub fn enter(block: &mut [u8], cpsr: u32, scr: u32, to: Mode, offset: u32, link: u32)
     requires { ⌜ (length (now block) ≡ BLOCK-SIZE)
-        × (isTarget to ≡ true)
+        × (isTarget (to .number) ≡ true)
         × (cpsr ≡ word (now block) CPSR)
         × (scr ≡ word (now block) SCR) ⌝ }
-    ensures { λ _. ⌜ now (block .exit) ≡ entered (now (block .entry)) to offset link ⌝ }
+    ensures { λ _. ⌜ now (block .exit) ≡ entered (now (block .entry)) (to .number) offset link ⌝ }
 {
     let scr_after = clear_ns(block, cpsr, scr, to);
     write_entry(block, cpsr, scr_after, to, offset, link)

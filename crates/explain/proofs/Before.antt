@@ -8,8 +8,8 @@ use native.Mathlib.Nat.{mul-zero, mul-suc}
 use lib.ListN.{length, take, drop, length-append}
 use lib.Seq.{take-at, drop-at, drop-append-le}
 use Rattle.words.specs.Word.{le32, Bytes}
-use Rattle.machine.specs.declared.event.Event.{Event}
-use Rattle.machine.specs.declared.verdict.Answer.{Answer}
+use Rattle.rules.specs.declared.event.Event.{Event}
+use Rattle.rules.specs.declared.verdict.Answer.{Answer}
 use Rattle.trace.specs.declared.Report.{Report}
 use Rattle.trace.specs.Layout.{Layout, Lawful, startSize, stepSize, placeOf}
 use Rattle.trace.specs.Published.{head, eventBytes, answerBytes, startRecord, stepShowing, stepRecords, run}

@@ -10,7 +10,7 @@ use lib.Dec.{eqb}
 use borrow.Author.Tests.{eq-eqb, ne-eqb, eqb-true, eqb-false}
 use Rattle.words.specs.Word.{word}
 use Rattle.state.specs.Choice.{if_then_else_, _is_}
-use Rattle.machine.specs.declared.verdict.Answer.{Answer}
+use Rattle.rules.specs.declared.verdict.Answer.{Answer}
 use Rattle.explain.specs.declared.Difference.{Difference}
 use Rattle.explain.specs.Explain.{NUMBER-PART, VALUE-PART, BLOCK-PART, partWord, none, differing}
 

@@ -6,7 +6,7 @@ use Prim.Native.Nat.{ℕ, _+_, _-_, _≤_}
 use lib.ListN.{length, take, drop}
 use borrow.Author.Tests.{eq-eqb, ne-eqb}
 use Rattle.words.specs.Word.{spelt, Bytes}
-use Rattle.machine.specs.declared.verdict.Answer.{Answer}
+use Rattle.rules.specs.declared.verdict.Answer.{Answer}
 use Rattle.trace.specs.declared.Report.{Report}
 use Rattle.trace.specs.Layout.{Layout, Lawful, startSize, stepSize, numberAt, valueAt, blockAfterAt}
 use Rattle.trace.specs.Report.{eventOf, report, WRONG-STEP}

@@ -11,7 +11,7 @@ use lib.Dec.{eqb, leb}
 use Rattle.words.specs.Word.{half, Bytes}
 use Rattle.words.proofs.SameWords.{same-words}
 use Rattle.words.proofs.Spell.{bytes-drop, bytes-take}
-use Rattle.machine.specs.declared.event.Event.{Event}
+use Rattle.rules.specs.declared.event.Event.{Event}
 use Rattle.trace.specs.Layout.{Layout, Lawful, stepSize, blockAfterAt}
 use Rattle.trace.specs.Report.{unless, _else_, headNumber, stepNumber, eventOf, SHORT, BAD-RECORD, WRONG-STEP}
 use Rattle.trace.specs.Judged.{Shows}

@@ -10,7 +10,7 @@ use Prim.Native.Nat.{ℕ, zero, suc, _+_, _-_, _/_}
 use lib.ListN.{take, drop}
 use Rattle.words.specs.Word.{spelt, word}
 use Rattle.state.specs.Choice.{if_then_else_, _is_}
-use Rattle.machine.specs.declared.verdict.Answer.{Answer}
+use Rattle.rules.specs.declared.verdict.Answer.{Answer}
 use Rattle.trace.specs.declared.Report.{Report}
 use Rattle.trace.specs.Layout.{Layout, startSize, numberAt, valueAt, blockAfterAt}
 use Rattle.trace.specs.Published.{run}

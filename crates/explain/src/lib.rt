@@ -3,9 +3,9 @@
 //
 // The block before is not stepped to again: the records before the Step were judged right, so it is the last 176 bytes
 // before the Step, the start block or the block after of the Step before.
-use machine::event::Event;
 use machine::step::step_event;
-use machine::verdict::Answer;
+use rules::event::Event;
+use rules::verdict::Answer;
 use state::place;
 use words::get_word;
 use words::word_at;

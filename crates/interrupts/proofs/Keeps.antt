@@ -8,7 +8,7 @@ use Rattle.state.specs.Field.{mode-field, SCR-NS, HCR-TGE}
 use Rattle.state.specs.Mode.{FIQ, IRQ, ABORT, MONITOR, HYP, USER, modes, known, el1}
 use Rattle.state.specs.State.{secure, nsUser, nsEl1}
 use Rattle.state.proofs.Good.{stands, Good}
-use Rattle.state.proofs.Test.{and-left, and-right, both, implies, implied, anyBit, at-bit, anyOf, at-one}
+use Rattle.state.proofs.Test.{and-left, and-right, both, implies, implied, everyBit, at-bit, everyOf, at-one}
 use Rattle.entry.proofs.Keeps.{mayStand}
 use Rattle.interrupts.specs.Check.{goes}
 use Rattle.interrupts.specs.Kind.{Kind, serror, fiq, irq, R, M, ownMode}
@@ -23,12 +23,12 @@ abbrev keepsPhysical : ℕ → ℕ → Bool → Bool → Bool → Bool → Bool
 keepsPhysical m own ns tge r om = implies (stands m ns tge) (mayStand m (goesB m ns tge r om own) ns tge)
 
 abbrev everywhere : ℕ → ℕ → Bool
-everywhere m own = anyBit (λ ns. anyBit (λ tge. anyBit (λ r. anyBit (keepsPhysical m own ns tge r))))
+everywhere m own = everyBit (λ ns. everyBit (λ tge. everyBit (λ r. everyBit (keepsPhysical m own ns tge r))))
 
 abbrev own-modes : List ℕ
 own-modes = ABORT ∷ FIQ ∷ IRQ ∷ []
 
-tried : anyOf modes (λ m. anyOf own-modes (everywhere m)) ≡ true
+tried : everyOf modes (λ m. everyOf own-modes (everywhere m)) ≡ true
 unfolding known el1
 tried = refl
 
@@ -48,19 +48,19 @@ physical-stands k cpsr scr hcr g =
     let r = R k scr in
     let om = M k hcr in
     let at : everywhere m own ≡ true =
-    at-one own-modes (everywhere m) (at-one modes (λ m. anyOf own-modes (everywhere m)) tried m (g .known-mode)) own (its-own k) in
+    at-one own-modes (everywhere m) (at-one modes (λ m. everyOf own-modes (everywhere m)) tried m (g .known-mode)) own (its-own k) in
     implied (stands m ns tge) (mayStand m (goesB m ns tge r om own) ns tge)
     (at-bit (keepsPhysical m own ns tge r)
-    (at-bit (λ r. anyBit (keepsPhysical m own ns tge r))
-    (at-bit (λ tge. anyBit (λ r. anyBit (keepsPhysical m own ns tge r)))
-    (at-bit (λ ns. anyBit (λ tge. anyBit (λ r. anyBit (keepsPhysical m own ns tge r)))) at ns) tge) r) om)
+    (at-bit (λ r. everyBit (keepsPhysical m own ns tge r))
+    (at-bit (λ tge. everyBit (λ r. everyBit (keepsPhysical m own ns tge r)))
+    (at-bit (λ ns. everyBit (λ tge. everyBit (λ r. everyBit (keepsPhysical m own ns tge r)))) at ns) tge) r) om)
     (g .standing)
 
 -- a virtual exception is taken in Non-secure state with TGE 0, so its own mode may stand there
 abbrev keepsVirtual : ℕ → ℕ → Bool → Bool → Bool
 keepsVirtual m own ns tge = implies (not tge) (mayStand m own ns tge)
 
-tried-virtual : anyOf modes (λ m. anyOf own-modes (λ own. anyBit (λ ns. anyBit (keepsVirtual m own ns)))) ≡ true
+tried-virtual : everyOf modes (λ m. everyOf own-modes (λ own. everyBit (λ ns. everyBit (keepsVirtual m own ns)))) ≡ true
 unfolding known el1
 tried-virtual = refl
 
@@ -74,8 +74,8 @@ virtual-stands k cpsr scr hcr g h =
     let tge = HCR-TGE hcr in
     implied (not tge) (mayStand m own ns tge)
     (at-bit (keepsVirtual m own ns)
-    (at-bit (λ ns. anyBit (keepsVirtual m own ns))
-    (at-one own-modes (λ own. anyBit (λ ns. anyBit (keepsVirtual m own ns)))
-    (at-one modes (λ m. anyOf own-modes (λ own. anyBit (λ ns. anyBit (keepsVirtual m own ns)))) tried-virtual m (g .known-mode))
+    (at-bit (λ ns. everyBit (keepsVirtual m own ns))
+    (at-one own-modes (λ own. everyBit (λ ns. everyBit (keepsVirtual m own ns)))
+    (at-one modes (λ m. everyOf own-modes (λ own. everyBit (λ ns. everyBit (keepsVirtual m own ns)))) tried-virtual m (g .known-mode))
     own (its-own k)) ns) tge)
     h

@@ -5,17 +5,17 @@ use mathlib.Core.List.{List, [], _∷_}
 use Prim.Native.Nat.{ℕ}
 use Rattle.state.specs.Choice.{if_then_else_, _is_, _among_}
 use Rattle.state.specs.Field.{mode-field, SCR-NS, HCR-TGE}
-use Rattle.state.specs.Mode.{USER, el1, guest}
-use Rattle.state.specs.State.{nsEl1, nsUser}
+use Rattle.state.specs.Mode.{USER, HYP, el1, guest}
+use Rattle.state.specs.State.{secure, nsEl1, nsUser}
 use Rattle.state.proofs.Laws.{ns-el1, ns-user}
-use Rattle.state.proofs.Test.{same, same-eq, anyBit, at-bit}
+use Rattle.state.proofs.Test.{same, same-eq, everyBit, at-bit}
 use Rattle.interrupts.specs.Check.{firstOf, found}
 use native.Mathlib.Omega.{arith}
 use Rattle.interrupts.specs.Exception.{Exception, Synchronous, SError, Fiq, Irq, VirtualSError, VirtualFiq, VirtualIrq, order}
-use Rattle.interrupts.specs.Kind.{Kind, serror, fiq, irq, M, mask, source}
+use Rattle.interrupts.specs.Kind.{Kind, serror, fiq, irq, line, R, M, W, mask, source}
 use Rattle.interrupts.specs.Masking.{obeyed}
 use Rattle.interrupts.specs.Parts.{virtualHere, takenIf, takesVirtual}
-use Rattle.interrupts.specs.Takeable.{virtualPending, pending, masked, takeable}
+use Rattle.interrupts.specs.Takeable.{physicalMasked, virtualPending, pending, masked, takeable}
 use Rattle.interrupts.specs.declared.check.Found.{Found}
 use Rattle.interrupts.specs.declared.check.Found.the-variants.{Nothing, First}
 
@@ -30,7 +30,7 @@ obeyedBy sec hyp m r w =
 abbrev agrees : Bool → Bool → Bool → Bool → Bool → Bool
 agrees sec hyp m r w = same (obeyed sec hyp m r w) (obeyedBy sec hyp m r w)
 
-tried : anyBit (λ sec. anyBit (λ hyp. anyBit (λ m. anyBit (λ r. anyBit (λ w. agrees sec hyp m r w))))) ≡ true
+tried : everyBit (λ sec. everyBit (λ hyp. everyBit (λ m. everyBit (λ r. everyBit (λ w. agrees sec hyp m r w))))) ≡ true
 unfolding obeyed
 tried = refl
 
@@ -38,10 +38,10 @@ pub obeyed-by : (sec hyp m r w : Bool) → obeyed sec hyp m r w ≡ obeyedBy sec
 obeyed-by sec hyp m r w =
     same-eq (obeyed sec hyp m r w) (obeyedBy sec hyp m r w)
     (at-bit (agrees sec hyp m r)
-    (at-bit (λ r. anyBit (agrees sec hyp m r))
-    (at-bit (λ m. anyBit (λ r. anyBit (agrees sec hyp m r)))
-    (at-bit (λ hyp. anyBit (λ m. anyBit (λ r. anyBit (agrees sec hyp m r))))
-    (at-bit (λ sec. anyBit (λ hyp. anyBit (λ m. anyBit (λ r. anyBit (agrees sec hyp m r))))) tried sec)
+    (at-bit (λ r. everyBit (agrees sec hyp m r))
+    (at-bit (λ m. everyBit (λ r. everyBit (agrees sec hyp m r)))
+    (at-bit (λ hyp. everyBit (λ m. everyBit (λ r. everyBit (agrees sec hyp m r))))
+    (at-bit (λ sec. everyBit (λ hyp. everyBit (λ m. everyBit (λ r. everyBit (agrees sec hyp m r))))) tried sec)
     hyp) m) r) w)
 
 -- Non-secure User and NS EL1 together: NS, and a mode that a guest runs in
@@ -57,7 +57,8 @@ in-guest cpsr scr =
     (both-of (SCR-NS scr) (mode-field cpsr is USER) (el1 (mode-field cpsr)))
 
 -- a virtual exception can be taken where one can be pending at all, by its M, its source and its mask bit
-parted : (here tge m src msk : Bool) → ((here && (not tge && (m && src))) && not msk) ≡ ((here && not tge) && (m && (src && not msk)))
+parted : (here tge m src msk : Bool)
+    → ((here && (not tge && (m && src))) && not msk) ≡ ((here && not tge) && (m && (src && not msk)))
 parted true true m src msk = refl
 parted true false true src msk = refl
 parted true false false src msk = refl
@@ -73,6 +74,13 @@ virtual-taken k lines cpsr scr hcr =
 pub virtual-tests : (k : Kind) (lines cpsr hcr : ℕ) {m src msk v : Bool} → m ≡ M k hcr → src ≡ source k hcr lines
     → msk ≡ mask k cpsr → v ≡ takenIf m src msk → v ≡ takesVirtual k lines cpsr hcr
 virtual-tests k lines cpsr hcr p q r e = cc
+
+-- the same of a physical exception, whose line is asked apart from what masks it
+pub physical-tests : (k : Kind) (lines cpsr scr hcr : ℕ) {msk sec hyp m r w v : Bool} → msk ≡ mask k cpsr
+    → sec ≡ secure cpsr scr → hyp ≡ (mode-field cpsr is HYP) → m ≡ M k hcr → r ≡ R k scr → w ≡ W k scr
+    → v ≡ (line k lines && not (obeyed sec hyp m r w && msk)) → v ≡ (line k lines && not (physicalMasked k cpsr scr hcr))
+physical-tests k lines cpsr scr hcr msk sec hyp m r w e =
+    e ∙ (λ i. line k lines && not (obeyed (sec i) (hyp i) (m i) (r i) (w i) && msk i))
 
 -- the first of the six, on each way through the tests
 module _ (lines cpsr scr hcr : ℕ) where
@@ -93,7 +101,8 @@ module _ (lines cpsr scr hcr : ℕ) where
 
   -- none of the physical ones
   module _ (a : can SError ≡ false) (b : can Fiq ≡ false) (c : can Irq ≡ false) where
-    rest : {x : Found} → x ≡ firstOf (VirtualSError ∷ VirtualFiq ∷ VirtualIrq ∷ []) lines cpsr scr hcr → x ≡ found lines cpsr scr hcr
+    rest : {x : Found} → x ≡ firstOf (VirtualSError ∷ VirtualFiq ∷ VirtualIrq ∷ []) lines cpsr scr hcr
+        → x ≡ found lines cpsr scr hcr
     unfolding found
     rest h = rw (a, b, c) h
 

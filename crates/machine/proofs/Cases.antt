@@ -19,10 +19,11 @@ use Rattle.interrupts.specs.Masking.{obeyed}
 use Rattle.interrupts.specs.Takeable.{pending, masked, takeable}
 use Rattle.banked.specs.Cell.{cell}
 use Rattle.banked.specs.Right.{denied, right}
-use Rattle.machine.specs.Event.{Event, INTERRUPT-CHECK, BANKED-READ, badEvent}
-use Rattle.machine.specs.Refusal.{refusal}
-use Rattle.machine.specs.Step.{doneAction, action, answer, after}
-use Rattle.machine.specs.Verdict.{value}
+use Rattle.rules.specs.Event.{INTERRUPT-CHECK, BANKED-READ, badEvent}
+use Rattle.rules.specs.declared.event.Event.{Event}
+use Rattle.rules.specs.Refusal.{refusal}
+use Rattle.rules.specs.Step.{doneAction, action, answer, after}
+use Rattle.rules.specs.Verdict.{value}
 
 -- a place and the word there
 abbrev pub Words : Type 0

@@ -27,14 +27,15 @@ use Rattle.banked.specs.Cell.{cell}
 use Rattle.interrupts.specs.declared.exception.Exception.{Exception}
 use Rattle.interrupts.specs.declared.exception.Exception.the-variants.{Synchronous, SError, Fiq, Irq, VirtualSError, VirtualFiq, VirtualIrq}
 use Rattle.banked.specs.Right.{denied, right}
-use Rattle.machine.specs.Event.{Event, INTERRUPT-CHECK, BANKED-READ, BANKED-WRITE, NOTE}
-use Rattle.machine.specs.Parts.{Sound}
-use Rattle.machine.specs.Refusal.{rows, refusal}
-use Rattle.machine.specs.Step.{Action, Refuse, Take, Quiet, Read, Put, takenBy, checked, doneAction, vaCleared, answerTo, blockAfter, action, answer, after}
-use Rattle.machine.specs.Verdict.{value}
-use Rattle.machine.proofs.Deciding.{known-code}
-use Rattle.machine.proofs.Rows.{Passed, passed}
-use Rattle.machine.proofs.Sound.{action-sound, target-small}
+use Rattle.rules.specs.Event.{INTERRUPT-CHECK, BANKED-READ, BANKED-WRITE, NOTE}
+use Rattle.rules.specs.declared.event.Event.{Event}
+use Rattle.rules.specs.Parts.{Sound}
+use Rattle.rules.specs.Refusal.{rows, refusal}
+use Rattle.rules.specs.Step.{Action, Refuse, Take, Quiet, Read, Put, takenBy, checked, doneAction, vaCleared, answerTo, blockAfter, action, answer, after}
+use Rattle.rules.specs.Verdict.{value}
+use Rattle.rules.proofs.Deciding.{known-code}
+use Rattle.rules.proofs.Rows.{Passed, passed}
+use Rattle.rules.proofs.Sound.{action-sound, target-small}
 
 -- what every word put into a block keeps, an entry and a step keep
 module _ (P : List ℕ → Type 0) (kept : (b : List ℕ) (p w : ℕ) → P b → P (put b p w)) where
@@ -119,7 +120,7 @@ way-number : (b : List ℕ) (x : Exception) (w : Way) → (w ≡ NotHere → ⊥
 way-number b x NotHere n = absurd (n refl)
 way-number b x (Enter to offset link) n = refl
 
-interrupt-enters : (x : Exception) (cpsr scr hcr pc : ℕ) → (x ≡ Synchronous → ⊥) → interrupt.way x cpsr scr hcr pc ≡ NotHere → ⊥
+pub interrupt-enters : (x : Exception) (cpsr scr hcr pc : ℕ) → (x ≡ Synchronous → ⊥) → interrupt.way x cpsr scr hcr pc ≡ NotHere → ⊥
 unfolding interrupt.way
 interrupt-enters Synchronous cpsr scr hcr pc n e = n refl
 interrupt-enters SError cpsr scr hcr pc n e = let z : _≡_ {A = ℕ} 0 1 = cc in omega arith

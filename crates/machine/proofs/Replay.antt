@@ -10,10 +10,11 @@ use Rattle.words.specs.Word.{spelt, word}
 use Rattle.state.specs.Choice.{if_then_else_, _is_}
 use Rattle.state.specs.Number.{BAD-SIZE}
 use Rattle.state.specs.Place.{BLOCK-SIZE}
-use Rattle.machine.specs.Event.{Event}
-use Rattle.machine.specs.Step.{ANSWER-SIZE, answer, after, numberReturned, blockLeft, answerLeft}
-use Rattle.machine.specs.Verdict.{Answer, refusedWith}
-use Rattle.machine.proofs.Buffer.{first-word, second-word}
+use Rattle.rules.specs.declared.event.Event.{Event}
+use Rattle.rules.specs.Step.{ANSWER-SIZE, answer, after, numberReturned, blockLeft, answerLeft}
+use Rattle.rules.specs.Verdict.{refusedWith}
+use Rattle.rules.specs.declared.verdict.Answer.{Answer}
+use Rattle.rules.proofs.Buffer.{first-word, second-word}
 use Rattle.machine.proofs.Laws.{number-fits}
 use Rattle.machine.proofs.Stepping.{Performed, Stepped, wrong-size}
 

@@ -2,18 +2,20 @@
 use mathlib.Core.Path.{_≡_, refl, sym, ap, _∙_}
 use mathlib.Core.Bool.{Bool, true, false, _&&_}
 use mathlib.Core.List.{List}
-use Prim.Native.Nat.{ℕ, _<_, _^_}
+use Prim.Native.Nat.{ℕ, zero, suc, _<_, _^_}
 use lib.ListN.{length}
 use borrow.Author.Tests.{eq-eqb, ne-eqb}
 use Rattle.state.specs.Choice.{if_then_else_, _is_}
 use Rattle.state.specs.Number.{DONE, BAD-SIZE}
 use Rattle.state.specs.Place.{BLOCK-SIZE}
 use Rattle.state.specs.State.{fault}
-use Rattle.machine.specs.Event.{Event}
-use Rattle.machine.specs.Step.{ANSWER-SIZE, Action, Refuse, action, answerTo, blockAfter, answer, after, numberReturned, blockLeft, answerLeft, answerBytes}
-use Rattle.machine.specs.Parts.{Carried}
-use Rattle.machine.specs.Verdict.{Answer, refusedWith}
-use Rattle.machine.proofs.Deciding.{event, bad-size, faulty}
+use Rattle.rules.specs.declared.event.Event.{Event}
+use Rattle.rules.specs.Step.{ANSWER-SIZE, Action, Refuse, action, answerTo, blockAfter, answer, after, numberReturned, blockLeft, answerLeft, answerBytes}
+use Rattle.rules.specs.Parts.{Carried}
+use Rattle.rules.specs.Verdict.{refusedWith}
+use Rattle.rules.specs.declared.verdict.Answer.{Answer}
+use Rattle.rules.proofs.Deciding.{event, bad-size, faulty, none-of-twelve}
+use Rattle.rules.specs.Event.{isKnown}
 
 module _ (b : List ℕ) (e : Event) where
   carried-out : {x : Action} {r : Answer} {l : List ℕ} → x ≡ action b e → (r ≡ answerTo b x) × (l ≡ blockAfter b x)
@@ -65,3 +67,12 @@ module _ (b : List ℕ) (e : Event) where
 -- what holds of the event of a code's number holds of the code
 pub at-code : (b : List ℕ) (a w : ℕ) {code k : ℕ} → code ≡ k → action b (event k a w) ≡ action b (event code a w)
 at-code b a w e = rw e
+
+-- a code that is no arm's, as the branch knows it
+abbrev NoneTo : ℕ → ℕ → Type 0
+NoneTo zero code = Unit {0}
+NoneTo (suc k) code = NoneTo k code × (code ≡ suc k → ⊥)
+
+pub no-arm : (code : ℕ) → NoneTo 12 code → isKnown code ≡ false
+no-arm code ((((((((((((u, n1), n2), n3), n4), n5), n6), n7), n8), n9), n10), n11), n12) =
+    none-of-twelve code n1 n2 n3 n4 n5 n6 n7 n8 n9 n10 n11 n12

@@ -1,39 +1,41 @@
--- Statement 10: two results that meet the step's statement are equal, and four wrong steps do not meet it: one that only
--- refuses, one that answers always the same, one that moves nothing, one whose entries skip the SPSR.
+-- Two functions that meet the contract of the step agree, and four wrong ones do not meet it: one that only refuses, one that
+-- answers always the same, one that moves nothing, one whose entries skip the SPSR.
 use mathlib.Core.Path.{_≡_, refl, sym, ap, _∙_}
 use mathlib.Core.List.{List, [], _∷_}
-use Prim.Native.Nat.{ℕ}
-use lib.Dec.{eqb}
+use Prim.Native.Nat.{ℕ, zero, suc}
+use lib.Dec.{lit<}
+use lib.ListN.{length, replicate}
 use borrow.Author.Tests.{eqb-false}
-use Rattle.words.specs.Word.{spelt, word, put}
-use Rattle.state.specs.Mode.{IRQ, known, el1, guest, spsrPlace, lrPlace}
-use Rattle.state.specs.Number.{DONE, BAD-SIZE}
-use Rattle.state.specs.Place.{CPSR}
+use Rattle.words.specs.Word.{spelt, word, put, Bytes}
+use Rattle.words.proofs.Laws.{length-put, bytes-put}
+use Rattle.state.specs.Mode.{IRQ, known, el1, spsrPlace, lrPlace}
+use Rattle.state.specs.Number.{DONE}
+use Rattle.state.specs.Place.{BLOCK-SIZE, CPSR}
 use Rattle.state.specs.State.{good}
 use Rattle.entry.specs.Enter.{nsCleared, masksAfter, cpsrAfter, vectorBase, written, entered}
-use Rattle.entry.specs.Route as synchronous
 use Rattle.interrupts.specs.Check as interrupt
 use Rattle.interrupts.specs.Masking.{obeyed}
 use Rattle.interrupts.specs.Takeable.{pending, masked, takeable}
 use Rattle.interrupts.specs.declared.exception.Exception.{Exception}
 use Rattle.interrupts.specs.declared.exception.Exception.the-variants.{Irq}
-use Rattle.banked.specs.Cell.{cell}
-use Rattle.banked.specs.Right.{denied, right}
-use Rattle.machine.specs.Event.{Event, INTERRUPT-CHECK, badEvent}
-use Rattle.machine.specs.Refusal.{refusal}
-use Rattle.machine.specs.Step.{Action, Take, doneAction, action, answer, after}
-use Rattle.machine.specs.Verdict.{Answer, value}
-use Rattle.machine.proofs.Cases.{block, with}
+use Rattle.rules.specs.Event.{INTERRUPT-CHECK, badEvent}
+use Rattle.rules.specs.declared.event.Event.{Event}
+use Rattle.rules.specs.Refusal.{refusal}
+use Rattle.rules.specs.Step.{ANSWER-SIZE, Take, doneAction, action, answer, after, numberReturned, blockLeft, answerLeft}
+use Rattle.rules.specs.Verdict.{value}
+use Rattle.machine.specs.Claims.{Stepper, Given, Meets}
+use Rattle.machine.proofs.Cases.{Words, block, with}
+use Rattle.machine.proofs.Replay.{cleared}
 
--- a function from blocks and events to answers and blocks meets the statement of the step
-pub record Meets (told : List ℕ → Event → Answer) (left : List ℕ → Event → List ℕ) : Type 0 where
-  pub answers : (b : List ℕ) (e : Event) → told b e ≡ answer b e
-  pub leaves : (b : List ℕ) (e : Event) → left b e ≡ after b e
+pub meets-once : (f g : Stepper) → Meets f → Meets g → (b : List ℕ) (e : Event) (m : List ℕ) → Given b e m
+    → (f .number b e m ≡ g .number b e m) × (f .block b e m ≡ g .block b e m) × (f .buffer b e m ≡ g .buffer b e m)
+meets-once f g p q b e m h = (
+  p .returns b e m h ∙ sym (q .returns b e m h),
+  p .leaves b e m h ∙ sym (q .leaves b e m h),
+  p .answers b e m h ∙ sym (q .answers b e m h),
+)
 
-pub meets-once : (t t′ : List ℕ → Event → Answer) (l l′ : List ℕ → Event → List ℕ) → Meets t l → Meets t′ l′
-    → (b : List ℕ) (e : Event) → (t b e ≡ t′ b e) × (l b e ≡ l′ b e)
-meets-once t t′ l l′ m n b e =
-    (m .answers b e ∙ sym (n .answers b e), m .leaves b e ∙ sym (n .leaves b e))
+-- ---- two blocks that a caller can give
 
 -- a good block on which an IRQ is taken (case a but for its vector base), and the block of case c, on which none is
 abbrev taking : List ℕ
@@ -45,61 +47,93 @@ quiet = block (with 3 0x93)
 abbrev irq-line : Event
 irq-line = record { code = INTERRUPT-CHECK; a = 4; b = 0 }
 
-quiet-done : answer quiet irq-line .number ≡ DONE
-unfolding spelt put known el1 good obeyed pending masked takeable interrupt.found badEvent refusal doneAction action answer value
+zero-bytes : (n : ℕ) → Bytes (replicate n 0)
+zero-bytes zero i = lit< tt
+zero-bytes (suc n) zero = lit< tt
+zero-bytes (suc n) (suc i) = zero-bytes n i
+
+block-bytes : (xs : Words) → Bytes (block xs)
+block-bytes [] = zero-bytes BLOCK-SIZE
+block-bytes (x ∷ xs) = bytes-put (block xs) (x .0) (x .1) (block-bytes xs)
+
+block-size : (xs : Words) → length (block xs) ≡ BLOCK-SIZE
+block-size [] = refl
+block-size (x ∷ xs) = length-put (block xs) (x .0) (x .1) ∙ block-size xs
+
+given : (xs : Words) → Given (block xs) irq-line cleared
+given xs =
+    record {
+      block-bytes = block-bytes xs;
+      buffer-bytes = zero-bytes ANSWER-SIZE;
+      code-fits = lit< tt;
+      a-fits = lit< tt;
+      b-fits = lit< tt;
+    }
+
+-- ---- what the step does to them
+
+quiet-done : numberReturned quiet irq-line cleared ≡ DONE
+unfolding spelt put known el1 good obeyed pending masked takeable interrupt.found badEvent refusal doneAction action answer value numberReturned
 quiet-done = refl
 
-pub not-only-refusing : (t : List ℕ → Event → Answer) (l : List ℕ → Event → List ℕ)
-    → ((b : List ℕ) (e : Event) → t b e .number ≡ DONE → ⊥) → Meets t l → ⊥
-not-only-refusing t l h m = h quiet irq-line (ap (λ (x : Answer). x .number) (m .answers quiet irq-line) ∙ quiet-done)
+quiet-tells : word (answerLeft quiet irq-line cleared) 1 ≡ 0
+unfolding spelt put known el1 good obeyed pending masked takeable interrupt.found badEvent refusal doneAction action answer value answerLeft
+quiet-tells = refl
 
-empty-refused : answer [] irq-line .number ≡ BAD-SIZE
-unfolding refusal action answer
-empty-refused = refl
+taking-tells : word (answerLeft taking irq-line cleared) 1 ≡ 0x31218
+unfolding spelt put known el1 good obeyed pending masked takeable interrupt.found interrupt.way badEvent refusal doneAction action answer value answerLeft
+taking-tells = refl
 
-pub not-always-the-same : (t : List ℕ → Event → Answer) (l : List ℕ → Event → List ℕ)
-    → ((b b′ : List ℕ) (e e′ : Event) → t b e ≡ t b′ e′) → Meets t l → ⊥
-not-always-the-same t l h m =
-    eqb-false DONE BAD-SIZE refl
-    (sym quiet-done
-    ∙ ap (λ (x : Answer). x .number) (sym (m .answers quiet irq-line) ∙ h quiet [] irq-line irq-line ∙ m .answers [] irq-line)
-    ∙ empty-refused)
+goes : action taking irq-line ≡ Take Irq IRQ 0x18 0x8004
+unfolding spelt put known el1 good obeyed pending masked takeable interrupt.found interrupt.way badEvent refusal doneAction action
+goes = refl
 
--- the mode after the IRQ is taken is IRQ mode, and before it was Supervisor
-moved : word (after taking irq-line) CPSR ≡ 0x192
-unfolding spelt put known el1 spsrPlace lrPlace good nsCleared masksAfter cpsrAfter vectorBase written entered interrupt.found interrupt.way obeyed pending masked takeable badEvent refusal doneAction action after
+-- the mode after the IRQ is taken is IRQ mode, and the old CPSR is saved
+moved : word (blockLeft taking irq-line cleared) CPSR ≡ 0x192
+unfolding spelt put known el1 spsrPlace lrPlace good nsCleared masksAfter cpsrAfter vectorBase written entered interrupt.found interrupt.way obeyed pending masked takeable badEvent refusal doneAction action after blockLeft
 moved = refl
+
+saved : word (blockLeft taking irq-line cleared) (spsrPlace IRQ) ≡ 0x13
+unfolding spelt put known el1 spsrPlace lrPlace good nsCleared masksAfter cpsrAfter vectorBase written entered interrupt.found interrupt.way obeyed pending masked takeable badEvent refusal doneAction action after blockLeft
+saved = refl
 
 stood : word taking CPSR ≡ 0x13
 unfolding spelt put
 stood = refl
 
-pub not-moving-nothing : (t : List ℕ → Event → Answer) (l : List ℕ → Event → List ℕ)
-    → ((b : List ℕ) (e : Event) → l b e ≡ b) → Meets t l → ⊥
-not-moving-nothing t l h m =
-    eqb-false 0x192 0x13 refl
-    (sym moved ∙ ap (λ (b : List ℕ). word b CPSR) (sym (m .leaves taking irq-line) ∙ h taking irq-line) ∙ stood)
-
--- an entry that sets the mode and leaves the target's SPSR as it was
-goes : action taking irq-line ≡ Take Irq IRQ 0x18 0x8004
-unfolding spelt put known el1 good obeyed pending masked takeable interrupt.found interrupt.way badEvent refusal doneAction action
-goes = refl
-
-saved : word (after taking irq-line) (spsrPlace IRQ) ≡ 0x13
-unfolding spelt put known el1 spsrPlace lrPlace good nsCleared masksAfter cpsrAfter vectorBase written entered interrupt.found interrupt.way obeyed pending masked takeable badEvent refusal doneAction action after
-saved = refl
-
 stale : word taking (spsrPlace IRQ) ≡ 0
 unfolding spelt put spsrPlace
 stale = refl
 
-pub not-skipping-spsr : (t : List ℕ → Event → Answer) (l : List ℕ → Event → List ℕ)
-    → ((b : List ℕ) (e : Event) (x : Exception) (to offset link : ℕ) → action b e ≡ Take x to offset link
-    → word (l b e) (spsrPlace to) ≡ word b (spsrPlace to))
-    → Meets t l → ⊥
-not-skipping-spsr t l h m =
-    eqb-false 0x13 0 refl
-    (sym saved
-    ∙ ap (λ (b : List ℕ). word b (spsrPlace IRQ)) (sym (m .leaves taking irq-line))
-    ∙ h taking irq-line Irq IRQ 0x18 0x8004 goes
-    ∙ stale)
+-- ---- the wrong steps
+
+module _ (f : Stepper) (p : Meets f) where
+  pub not-only-refusing : ((b : List ℕ) (e : Event) (m : List ℕ) → Given b e m → f .number b e m ≡ DONE → ⊥) → ⊥
+  not-only-refusing h =
+      let g = given (with 3 0x93) in
+      h quiet irq-line cleared g (p .returns quiet irq-line cleared g ∙ quiet-done)
+
+  -- the answer to an event is the same on every block of its size
+  pub not-always-the-same : ((b b′ : List ℕ) (e : Event) (m : List ℕ) → Given b e m → Given b′ e m → length b ≡ BLOCK-SIZE
+      → length b′ ≡ BLOCK-SIZE → f .buffer b e m ≡ f .buffer b′ e m) → ⊥
+  not-always-the-same h =
+      let q = given (with 3 0x93) in
+      let t = given (with 1 0x13) in
+      let same = h quiet taking irq-line cleared q t (block-size (with 3 0x93)) (block-size (with 1 0x13)) in
+      let told = sym (p .answers quiet irq-line cleared q) ∙ same ∙ p .answers taking irq-line cleared t in
+      eqb-false 0 0x31218 refl (sym quiet-tells ∙ ap (λ (m : List ℕ). word m 1) told ∙ taking-tells)
+
+  pub not-moving-nothing : ((b : List ℕ) (e : Event) (m : List ℕ) → Given b e m → f .block b e m ≡ b) → ⊥
+  not-moving-nothing h =
+      let t = given (with 1 0x13) in
+      let left = sym (p .leaves taking irq-line cleared t) ∙ h taking irq-line cleared t in
+      eqb-false 0x192 0x13 refl (sym moved ∙ ap (λ (b : List ℕ). word b CPSR) left ∙ stood)
+
+  -- every entry leaves the target's SPSR as it was
+  pub not-skipping-spsr : ((b : List ℕ) (e : Event) (m : List ℕ) → Given b e m → (x : Exception) (to offset link : ℕ)
+      → action b e ≡ Take x to offset link → word (f .block b e m) (spsrPlace to) ≡ word b (spsrPlace to)) → ⊥
+  not-skipping-spsr h =
+      let t = given (with 1 0x13) in
+      let left = sym (p .leaves taking irq-line cleared t) in
+      let skipped = h taking irq-line cleared t Irq IRQ 0x18 0x8004 goes in
+      eqb-false 0x13 0 refl (sym saved ∙ ap (λ (b : List ℕ). word b (spsrPlace IRQ)) left ∙ skipped ∙ stale)

@@ -1,6 +1,1 @@
-pub mod Event
-pub mod Verdict
-pub mod Action
-pub mod Refusal
-pub mod Step
-pub mod Parts
+pub mod Claims

@@ -1,9 +1,3 @@
-// One step of the machine: the refusals in order, the rules of a done step, and the answer.
-pub mod answer;
-pub mod event;
-pub mod interrupt;
+// One step of the machine: the block is judged, then the event's own function does the rest. What an event comes to is
+// said in `rules`; the events stand in `synchronous`, `interrupt_check` and `access`.
 pub mod step;
-pub mod synchronous;
-pub mod taking;
-pub mod verdict;
-pub mod word;

@@ -8,8 +8,8 @@ ghost use mathlib.Core.Path.{_≡_};
 ghost use Prim.Native.Nat.{_<_, _^_};
 ghost use lib.ListN.{length};
 ghost use Rattle.state.specs.Place.{BLOCK-SIZE};
-ghost use Rattle.machine.specs.Parts.{Carried};
-ghost use Rattle.machine.specs.Step.{
+ghost use Rattle.rules.specs.Parts.{Carried};
+ghost use Rattle.rules.specs.Step.{
   ANSWER-SIZE,
   action,
   answer,
@@ -18,20 +18,15 @@ ghost use Rattle.machine.specs.Step.{
   blockLeft,
   answerLeft,
 };
-use crate::answer::VALUE;
-use crate::answer::refuse;
-use crate::event::BANKED_READ;
-use crate::event::BANKED_WRITE;
-use crate::event::Event;
-use crate::event::INTERRUPT_CHECK;
-use crate::event::NOTE;
-use crate::interrupt::interrupt_check;
-use crate::synchronous;
-use crate::verdict::Answer;
-use crate::word::banked_read;
-use crate::word::banked_write;
-use crate::word::note;
 use entry::code;
+use rules::answer::VALUE;
+use rules::answer::refuse;
+use rules::event::BANKED_READ;
+use rules::event::BANKED_WRITE;
+use rules::event::Event;
+use rules::event::INTERRUPT_CHECK;
+use rules::event::NOTE;
+use rules::verdict::Answer;
 use state::number;
 use state::place;
 use state::state::fault_of;
@@ -67,10 +62,10 @@ fn step_sized(block: &mut [u8], code: u32, a: u32, b: u32, buffer: &mut [u8]) ->
         code::DATA_ABORT => synchronous::data_abort(block, cpsr, scr, a, b, buffer),
         code::HYP_TRAP => synchronous::hyp_trap(block, cpsr, scr, a, b, buffer),
         code::MONITOR_TRAP => synchronous::monitor_trap(block, cpsr, scr, a, b, buffer),
-        INTERRUPT_CHECK => interrupt_check(block, cpsr, scr, a, b, buffer),
-        BANKED_READ => banked_read(block, cpsr, scr, a, b, buffer),
-        BANKED_WRITE => banked_write(block, cpsr, scr, a, b, buffer),
-        NOTE => note(block, cpsr, scr, a, b, buffer),
+        INTERRUPT_CHECK => interrupt_check::check(block, cpsr, scr, a, b, buffer),
+        BANKED_READ => access::banked_read(block, cpsr, scr, a, b, buffer),
+        BANKED_WRITE => access::banked_write(block, cpsr, scr, a, b, buffer),
+        NOTE => access::note(block, cpsr, scr, a, b, buffer),
         _ => refuse(buffer, number::BAD_EVENT),
     }
 }
@@ -117,10 +112,10 @@ fn replay_sized(block: &mut [u8], code: u32, a: u32, b: u32, buffer: &mut [u8]) 
         code::DATA_ABORT => synchronous::data_abort(block, cpsr, scr, a, b, buffer),
         code::HYP_TRAP => synchronous::hyp_trap(block, cpsr, scr, a, b, buffer),
         code::MONITOR_TRAP => synchronous::monitor_trap(block, cpsr, scr, a, b, buffer),
-        INTERRUPT_CHECK => interrupt_check(block, cpsr, scr, a, b, buffer),
-        BANKED_READ => banked_read(block, cpsr, scr, a, b, buffer),
-        BANKED_WRITE => banked_write(block, cpsr, scr, a, b, buffer),
-        NOTE => note(block, cpsr, scr, a, b, buffer),
+        INTERRUPT_CHECK => interrupt_check::check(block, cpsr, scr, a, b, buffer),
+        BANKED_READ => access::banked_read(block, cpsr, scr, a, b, buffer),
+        BANKED_WRITE => access::banked_write(block, cpsr, scr, a, b, buffer),
+        NOTE => access::note(block, cpsr, scr, a, b, buffer),
         _ => refuse(buffer, number::BAD_EVENT),
     }
 }

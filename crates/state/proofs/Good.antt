@@ -12,7 +12,7 @@ use Rattle.state.specs.Number.{DONE, BAD-MODE, BAD-STATE}
 use Rattle.state.specs.Parts.{inSet, BadModes, modeFault}
 pub use Rattle.state.specs.Parts.{stands}
 use Rattle.state.specs.State.{good, faultOf}
-use Rattle.state.proofs.Test.{and-left, and-right, same, same-eq, anyBelow, at-below}
+use Rattle.state.proofs.Test.{and-left, and-right, same, same-eq, everyBelow, at-below}
 
 pub good-by-parts : (cpsr scr hcr : ℕ) → known (mode-field cpsr) ≡ true → (bits 24 21 cpsr is 0) ≡ true
     → stands (mode-field cpsr) (SCR-NS scr) (HCR-TGE hcr) ≡ true → faultOf cpsr scr hcr ≡ DONE
@@ -50,7 +50,7 @@ parts-of-good cpsr scr hcr h =
 
 -- the set is right where it is right at each of the 32 numbers that CPSR can hold
 pub bad-modes : (set : ℕ) {a b ns tge : Bool} → a ≡ ns → b ≡ tge
-    → anyBelow 32 (λ m. same (inSet set m) (not (known m && stands m ns tge))) ≡ true → BadModes a b set
+    → everyBelow 32 (λ m. same (inSet set m) (not (known m && stands m ns tge))) ≡ true → BadModes a b set
 bad-modes set {ns} {tge} p q h m l =
     rw (p, q)
     (same-eq (inSet set m) (not (known m && stands m ns tge))

@@ -9,19 +9,19 @@ use lib.Dec.{eqb, ltb}
 use borrow.Author.Tests.{eq-eqb, ne-eqb, ltb-true}
 use Rattle.state.specs.Choice.{if_then_else_, _is_, _among_}
 pub use Rattle.state.specs.Parts.{inSet}
-use Rattle.state.proofs.Test.{same, same-eq, anyBelow, at-below, anyOf, and-left, and-right}
+use Rattle.state.proofs.Test.{same, same-eq, everyBelow, at-below, everyOf, and-left, and-right}
 
-pub in-set : (set : ℕ) (ms : List ℕ) → anyBelow 32 (λ n. same (inSet set n) (n among ms)) ≡ true → (n : ℕ) → n < 32
+pub in-set : (set : ℕ) (ms : List ℕ) → everyBelow 32 (λ n. same (inSet set n) (n among ms)) ≡ true → (n : ℕ) → n < 32
     → inSet set n ≡ (n among ms)
 in-set set ms h n l =
     same-eq (inSet set n) (n among ms) (at-below 32 (λ n. same (inSet set n) (n among ms)) h n l)
 
 -- no number of k or more is in a list of smaller ones
-pub among-out : (k : ℕ) (xs : List ℕ) → anyOf xs (λ x. ltb x k) ≡ true → (n : ℕ) → k ≤ n → (n among xs) ≡ false
+pub among-out : (k : ℕ) (xs : List ℕ) → everyOf xs (λ x. ltb x k) ≡ true → (n : ℕ) → k ≤ n → (n among xs) ≡ false
 among-out k [] h n l = refl
 among-out k (x ∷ xs) h n l =
-    let b = ltb-true x k (and-left (ltb x k) (anyOf xs (λ x. ltb x k)) h) in
-    rw (ne-eqb n x (λ e. omega arith)) (among-out k xs (and-right (ltb x k) (anyOf xs (λ x. ltb x k)) h) n l)
+    let b = ltb-true x k (and-left (ltb x k) (everyOf xs (λ x. ltb x k)) h) in
+    rw (ne-eqb n x (λ e. omega arith)) (among-out k xs (and-right (ltb x k) (everyOf xs (λ x. ltb x k)) h) n l)
 
 -- the number is one of those of the list, as the arms of a `match` say it
 abbrev pub OneOf : ℕ → List ℕ → Type 0

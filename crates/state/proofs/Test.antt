@@ -76,53 +76,53 @@ implied true b h e = h
 implied false b h e = let z : _≡_ {A = Bool} false true = e in cc
 
 -- the test passes with the bit set and with it clear
-abbrev pub anyBit : (Bool → Bool) → Bool
-anyBit f = f true && f false
+abbrev pub everyBit : (Bool → Bool) → Bool
+everyBit f = f true && f false
 
-pub at-bit : (f : Bool → Bool) → anyBit f ≡ true → (t : Bool) → f t ≡ true
+pub at-bit : (f : Bool → Bool) → everyBit f ≡ true → (t : Bool) → f t ≡ true
 at-bit f h true = and-left (f true) (f false) h
 at-bit f h false = and-right (f true) (f false) h
 
 -- the test passes at each number below k
-abbrev pub anyBelow : ℕ → (ℕ → Bool) → Bool
-anyBelow zero f = true
-anyBelow (suc k) f = f k && anyBelow k f
+abbrev pub everyBelow : ℕ → (ℕ → Bool) → Bool
+everyBelow zero f = true
+everyBelow (suc k) f = f k && everyBelow k f
 
-pub at-below : (k : ℕ) (f : ℕ → Bool) → anyBelow k f ≡ true → (n : ℕ) → n < k → f n ≡ true
+pub at-below : (k : ℕ) (f : ℕ → Bool) → everyBelow k f ≡ true → (n : ℕ) → n < k → f n ≡ true
 at-below zero f h n l = absurd (not-suc-le-zero l)
-at-below (suc k) f h n l = by (eqb n k) refl (λ m. at-below k f (and-right (f k) (anyBelow k f) h) n m)
+at-below (suc k) f h n l = by (eqb n k) refl (λ m. at-below k f (and-right (f k) (everyBelow k f) h) n m)
   where
     by : (t : Bool) → eqb n k ≡ t → (n < k → f n ≡ true) → f n ≡ true
-    by true e rest = rw (eqb-true n k e) (and-left (f k) (anyBelow k f) h)
+    by true e rest = rw (eqb-true n k e) (and-left (f k) (everyBelow k f) h)
     by false e rest = let d = eqb-false n k e in rest (omega arith)
 
 -- the test passes at each number of the list
-abbrev pub anyOf : List ℕ → (ℕ → Bool) → Bool
-anyOf [] f = true
-anyOf (x ∷ xs) f = f x && anyOf xs f
+abbrev pub everyOf : List ℕ → (ℕ → Bool) → Bool
+everyOf [] f = true
+everyOf (x ∷ xs) f = f x && everyOf xs f
 
-pub at-one : (xs : List ℕ) (f : ℕ → Bool) → anyOf xs f ≡ true → (n : ℕ) → (n among xs) ≡ true → f n ≡ true
+pub at-one : (xs : List ℕ) (f : ℕ → Bool) → everyOf xs f ≡ true → (n : ℕ) → (n among xs) ≡ true → f n ≡ true
 at-one [] f h n e = let z : _≡_ {A = Bool} false true = e in cc
-at-one (x ∷ xs) f h n e = by (eqb n x) refl e (at-one xs f (and-right (f x) (anyOf xs f) h) n)
+at-one (x ∷ xs) f h n e = by (eqb n x) refl e (at-one xs f (and-right (f x) (everyOf xs f) h) n)
   where
     by : (t : Bool) → eqb n x ≡ t → (if t then true else n among xs) ≡ true → ((n among xs) ≡ true → f n ≡ true)
         → f n ≡ true
-    by true q g rest = rw (eqb-true n x q) (and-left (f x) (anyOf xs f) h)
+    by true q g rest = rw (eqb-true n x q) (and-left (f x) (everyOf xs f) h)
     by false q g rest = rest g
 
 -- the test passes at each entry of a table and its index, counted from i
-abbrev pub anyEntry : ℕ → List ℕ → (ℕ → ℕ → Bool) → Bool
-anyEntry i [] f = true
-anyEntry i (x ∷ xs) f = f i x && anyEntry (suc i) xs f
+abbrev pub everyEntry : ℕ → List ℕ → (ℕ → ℕ → Bool) → Bool
+everyEntry i [] f = true
+everyEntry i (x ∷ xs) f = f i x && everyEntry (suc i) xs f
 
-entry-from : (xs : List ℕ) (f : ℕ → ℕ → Bool) (i : ℕ) → anyEntry i xs f ≡ true → (k : ℕ) → k < length xs
+entry-from : (xs : List ℕ) (f : ℕ → ℕ → Bool) (i : ℕ) → everyEntry i xs f ≡ true → (k : ℕ) → k < length xs
     → f (i + k) (getD xs k 0) ≡ true
 entry-from [] f i h k l = absurd (not-suc-le-zero l)
-entry-from (x ∷ xs) f i h zero l = rw add-zero (and-left (f i x) (anyEntry (suc i) xs f) h)
+entry-from (x ∷ xs) f i h zero l = rw add-zero (and-left (f i x) (everyEntry (suc i) xs f) h)
 entry-from (x ∷ xs) f i h (suc k) l =
     let e : i + suc k ≡ suc i + k = add-suc i k ∙ sym (suc-add i k) in
-    rw e (entry-from xs f (suc i) (and-right (f i x) (anyEntry (suc i) xs f) h) k (le-of-suc-le-suc l))
+    rw e (entry-from xs f (suc i) (and-right (f i x) (everyEntry (suc i) xs f) h) k (le-of-suc-le-suc l))
 
-pub at-entry : (xs : List ℕ) (f : ℕ → ℕ → Bool) → anyEntry 0 xs f ≡ true → (k : ℕ) → k < length xs
+pub at-entry : (xs : List ℕ) (f : ℕ → ℕ → Bool) → everyEntry 0 xs f ≡ true → (k : ℕ) → k < length xs
     → f k (getD xs k 0) ≡ true
 at-entry xs f h k l = rw zero-add at (entry-from xs f 0 h k l)

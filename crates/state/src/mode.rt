@@ -5,37 +5,24 @@ ghost use Rattle.state.specs.Field.{mode-field};
 ghost use Rattle.state.specs.Mode.{known, el1, guest, spsrPlace, lrPlace};
 use crate::place;
 
-// The mode numbers.
-pub const USER: u32 = 0x10;
-
-pub const FIQ: u32 = 0x11;
-
-pub const IRQ: u32 = 0x12;
-
-pub const SUPERVISOR: u32 = 0x13;
-
-pub const MONITOR: u32 = 0x16;
-
-pub const ABORT: u32 = 0x17;
-
-pub const HYP: u32 = 0x1A;
-
-pub const UNDEFINED: u32 = 0x1B;
-
-pub const SYSTEM: u32 = 0x1F;
-
+// A mode, by the number that CPSR has for it.
 pub struct Mode {
     pub number: u32,
 }
 
 // Sets of modes, bit n for the mode of number n: one shift tells whether a mode is in one.
-const EL1_MODES: u32 = 0x888E_0000;
+const EL1_MODES: u32 = 1 << Mode::FIQ.number
+    | 1 << Mode::IRQ.number
+    | 1 << Mode::SUPERVISOR.number
+    | 1 << Mode::ABORT.number
+    | 1 << Mode::UNDEFINED.number
+    | 1 << Mode::SYSTEM.number;
 
-const GUEST_MODES: u32 = 0x888F_0000;
+const GUEST_MODES: u32 = 1 << Mode::USER.number | EL1_MODES;
 
-const MODES: u32 = 0x8CCF_0000;
+const HYP_MODE: u32 = 1 << Mode::HYP.number;
 
-const HYP_MODE: u32 = 0x0400_0000;
+const MODES: u32 = 1 << Mode::MONITOR.number | HYP_MODE | GUEST_MODES;
 
 // The modes that no good block is in: whatever it holds, with NS 1 and TGE 1, and with NS 0.
 pub const UNKNOWN: u32 = 0xFFFF_FFFF - MODES;
@@ -45,27 +32,28 @@ pub const UNKNOWN_OR_EL1: u32 = UNKNOWN + EL1_MODES;
 pub const UNKNOWN_OR_HYP: u32 = UNKNOWN + HYP_MODE;
 
 impl Mode {
-    pub const USER: Mode = Mode { number: USER };
+    // The nine.
+    pub const USER: Mode = Mode { number: 0x10 };
 
-    pub const FIQ: Mode = Mode { number: FIQ };
+    pub const FIQ: Mode = Mode { number: 0x11 };
 
-    pub const IRQ: Mode = Mode { number: IRQ };
+    pub const IRQ: Mode = Mode { number: 0x12 };
 
-    pub const SUPERVISOR: Mode = Mode { number: SUPERVISOR };
+    pub const SUPERVISOR: Mode = Mode { number: 0x13 };
 
-    pub const MONITOR: Mode = Mode { number: MONITOR };
+    pub const MONITOR: Mode = Mode { number: 0x16 };
 
-    pub const ABORT: Mode = Mode { number: ABORT };
+    pub const ABORT: Mode = Mode { number: 0x17 };
 
-    pub const HYP: Mode = Mode { number: HYP };
+    pub const HYP: Mode = Mode { number: 0x1A };
 
-    pub const UNDEFINED: Mode = Mode { number: UNDEFINED };
+    pub const UNDEFINED: Mode = Mode { number: 0x1B };
 
-    pub const SYSTEM: Mode = Mode { number: SYSTEM };
+    pub const SYSTEM: Mode = Mode { number: 0x1F };
 
     // The mode that a CPSR word names.
     pub fn of(cpsr: u32) -> Mode
-        ensures { λ r. ⌜ r .number ≡ mode-field cpsr ⌝ }
+        ensures { λ r. ⌜ r ≡ record { number = mode-field cpsr } ⌝ }
     {
         Mode { number: cpsr % 32 }
     }
@@ -114,15 +102,22 @@ impl Mode {
         ensures { λ r. ⌜ r ≡ spsrPlace (self .number) ⌝ }
     {
         let n = self.number;
-        match n {
-            FIQ => place::SPSR_FIQ,
-            IRQ => place::SPSR_IRQ,
-            SUPERVISOR => place::SPSR_SVC,
-            MONITOR => place::SPSR_MON,
-            ABORT => place::SPSR_ABT,
-            HYP => place::SPSR_HYP,
-            UNDEFINED => place::SPSR_UND,
-            _ => place::NO_PLACE,
+        if n == Mode::FIQ.number {
+            place::SPSR_FIQ
+        } else if n == Mode::IRQ.number {
+            place::SPSR_IRQ
+        } else if n == Mode::SUPERVISOR.number {
+            place::SPSR_SVC
+        } else if n == Mode::ABORT.number {
+            place::SPSR_ABT
+        } else if n == Mode::UNDEFINED.number {
+            place::SPSR_UND
+        } else if n == Mode::MONITOR.number {
+            place::SPSR_MON
+        } else if n == Mode::HYP.number {
+            place::SPSR_HYP
+        } else {
+            place::NO_PLACE
         }
     }
 
@@ -131,17 +126,26 @@ impl Mode {
         ensures { λ r. ⌜ r ≡ lrPlace (self .number) ⌝ }
     {
         let n = self.number;
-        match n {
-            USER => place::LR_USR,
-            FIQ => place::LR_FIQ,
-            IRQ => place::LR_IRQ,
-            SUPERVISOR => place::LR_SVC,
-            MONITOR => place::LR_MON,
-            ABORT => place::LR_ABT,
-            HYP => place::ELR_HYP,
-            UNDEFINED => place::LR_UND,
-            SYSTEM => place::LR_USR,
-            _ => place::NO_PLACE,
+        if n == Mode::USER.number {
+            place::LR_USR
+        } else if n == Mode::FIQ.number {
+            place::LR_FIQ
+        } else if n == Mode::IRQ.number {
+            place::LR_IRQ
+        } else if n == Mode::SUPERVISOR.number {
+            place::LR_SVC
+        } else if n == Mode::ABORT.number {
+            place::LR_ABT
+        } else if n == Mode::UNDEFINED.number {
+            place::LR_UND
+        } else if n == Mode::MONITOR.number {
+            place::LR_MON
+        } else if n == Mode::HYP.number {
+            place::ELR_HYP
+        } else if n == Mode::SYSTEM.number {
+            place::LR_USR
+        } else {
+            place::NO_PLACE
         }
     }
 }

@@ -9,8 +9,8 @@ use lib.Seq.{drop-drop}
 use borrow.Author.Tests.{le-leb, eq-eqb, leb-true, eqb-true}
 use Rattle.words.specs.Word.{le32, spelt, Bytes}
 use Rattle.words.proofs.Spell.{spelt-split, bytes-drop, bytes-take}
-use Rattle.machine.specs.declared.event.Event.{Event}
-use Rattle.machine.specs.declared.verdict.Answer.{Answer}
+use Rattle.rules.specs.declared.event.Event.{Event}
+use Rattle.rules.specs.declared.verdict.Answer.{Answer}
 use Rattle.trace.specs.Layout.{Layout, Lawful, startSize, stepSize, endSize, endKind, mostSteps, placeOf}
 use Rattle.trace.specs.Published.{IsEvent, AreEvents, head, startRecord, endRecord, stepShowing, stepRecord, stepRecords, run, published}
 use Rattle.trace.specs.Report.{headNumber, startNumber, stepNumber, endNumber, endReport, reportFrom, report, eventOf, WRONG-STEP}

@@ -15,19 +15,21 @@ use borrow.Author.Tests.{leb-true, leb-false}
 use Rattle.words.specs.Word.{half, word, put, Bytes}
 use Rattle.words.proofs.Laws.{length-put, word-put-same}
 use Rattle.words.proofs.Spell.{half-front}
-use Rattle.machine.specs.declared.event.Event.{Event}
-use Rattle.machine.specs.declared.verdict.Answer.{Answer}
+use Rattle.rules.specs.declared.event.Event.{Event}
+use Rattle.rules.specs.declared.verdict.Answer.{Answer}
 use Rattle.trace.specs.Layout.{Layout, Lawful, startSize, stepSize, endSize, endKind, mostSteps, placeOf}
-use Rattle.trace.specs.Published.{IsEvent, IsAnswer, AreEvents, startRecord, endRecord, stepShowing, stepRecord, stepRecords, run, published}
+use Rattle.trace.specs.Published.{IsEvent, IsAnswer, AreEvents, startRecord, endRecord, stepShowing, stepRecord}
+use Rattle.trace.specs.Published.{stepRecords, run, published}
 use Rattle.trace.specs.Report.{_else_, headNumber, startNumber, stepNumber, endNumber, report, SHORT, WRONG-STEP, TRAILING}
 use Rattle.trace.specs.Claims.{Falls, CutAt, in-start, in-step, in-end, changed}
 use Rattle.trace.proofs.Faults.{else-first, head-short, head-cut, head-whole}
-use Rattle.trace.proofs.Records.{end-head, length-end, start-head, step-head, shown-answer, shown-block, length-run, bytes-run, length-published, take-begun, steps-append}
+use Rattle.trace.proofs.Records.{end-head, length-end, start-head, step-head, shown-answer, shown-block}
+use Rattle.trace.proofs.Records.{length-run, bytes-run, length-published, take-begun, steps-append}
 use Rattle.trace.proofs.Judging.{from-wrong, end-wrong, end-more, start-wrong}
 use Rattle.trace.proofs.Accepts.{shown-wrong, report-begun, report-ending, end-number}
 
 -- one number is below another, or not
-below : (m n : ℕ) → (m < n) ⊎ (n ≤ m)
+pub below : (m n : ℕ) → (m < n) ⊎ (n ≤ m)
 below m n = go (leb n m) refl
   where
     go : (t : Bool) → leb n m ≡ t → (m < n) ⊎ (n ≤ m)
@@ -70,12 +72,12 @@ module _ (L : Layout) (LL : Lawful L) where
         event-ok = are-second es (e ∷ fs) words .0
 
         -- anything but what the rules give is refused with 11 at that Step's first byte, Steps being its index
-        refused-there : (x : Answer) (c : List ℕ) → length c ≡ L .size
+        pub step-changed : (x : Answer) (c : List ℕ) → length c ≡ L .size
             → (stepShowing L e x c ≡ stepRecord L (run L b es) e → ⊥)
             → report L (changed L b es e x c fs)
             ≡ record { number = WRONG-STEP; place = placeOf L (length es); steps = length es }
         unfolding changed
-        refused-there x c l n =
+        step-changed x c l n =
             let m : ℕ = length es + suc (length fs) in
             let k : ℕ = length es in
             let d : List ℕ = run L b es in
@@ -96,7 +98,7 @@ module _ (L : Layout) (LL : Lawful L) where
             let fits : IsAnswer (L .answer d e) =
             record { number = LL .number-fits d e; value = LL .value-fits d e (bytes-run L LL es b by) }
             in
-            refused-there x (L .after d e) (LL .length-after d e ∙ length-run L LL es b ∙ h)
+            step-changed x (L .after d e) (LL .length-after d e ∙ length-run L LL es b ∙ h)
             (λ q. n (shown-answer L LL e e x (L .answer d e) (L .after d e) (L .after d e) ok fits q))
 
         -- the block after was changed, in any byte, whatever answer is shown with it
@@ -104,7 +106,7 @@ module _ (L : Layout) (LL : Lawful L) where
             → report L (changed L b es e x c fs)
             ≡ record { number = WRONG-STEP; place = placeOf L (length es); steps = length es }
         block-changed x c l n =
-            refused-there x c l (λ q. n (shown-block L LL e e x (L .answer (run L b es) e) c (L .after (run L b es) e)
+            step-changed x c l (λ q. n (shown-block L LL e e x (L .answer (run L b es) e) c (L .after (run L b es) e)
             q))
 
         -- one word of it was changed, the saved word of an entry among them: right mode, stale saved state

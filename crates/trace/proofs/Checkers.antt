@@ -1,23 +1,30 @@
 -- The statement allows one checker only. One that accepts all, or refuses all, or does not look at some Step, answers
 -- wrongly on the empty string, on the shortest trace, or on a trace in which that Step was changed.
-use mathlib.Core.Path.{_≡_, sym, ap, _∙_}
-use mathlib.Core.List.{List, [], _∷_, _++_, append-nil}
-use Prim.Native.Nat.{ℕ, zero, suc, _+_, _<_, _≤_, _^_}
+use mathlib.Core.Path.{_≡_, refl, sym, ap, _∙_}
+use mathlib.Core.Logic.{_⊎_, inl, inr}
+use mathlib.Core.List.{List, [], _∷_, _++_, append-assoc}
+use Prim.Native.Nat.{ℕ, zero, suc, _+_, _-_, _<_, _≤_, _^_}
 use native.Mathlib.Omega.{arith}
-use lib.ListN.{length, replicate, length-replicate}
+use native.Mathlib.Nat.{mul-suc}
+use lib.ListN.{length, getD, replicate, length-append, length-replicate, List·getD-append}
+use lib.Seq.{getD-append-add}
 use lib.Dec.{lit<}
-use Rattle.words.specs.Word.{le16, le32, Bytes}
+use Rattle.words.specs.Word.{le16, le32, spelt, Bytes}
 use Rattle.words.proofs.Spell.{bytes-none, bytes-append, bytes-half, bytes-word, bytes-zeros}
-use Rattle.machine.specs.declared.event.Event.{Event}
-use Rattle.machine.specs.declared.verdict.Answer.{Answer}
+use Rattle.rules.specs.declared.event.Event.{Event}
+use Rattle.rules.specs.declared.verdict.Answer.{Answer}
 use Rattle.trace.specs.declared.Report.{Report}
-use Rattle.trace.specs.Layout.{Layout, Lawful, mostSteps}
-use Rattle.trace.specs.Published.{IsEvent, IsAnswer, AreEvents, head, eventBytes, answerBytes, startRecord, endRecord, stepShowing, stepRecord, stepRecords, run, published, Published}
-use Rattle.trace.specs.Report.{report, WRONG-STEP}
-use Rattle.trace.specs.Claims.{Meets, changed}
-use Rattle.trace.proofs.Records.{bytes-run, length-step, length-published}
+use Rattle.trace.specs.Layout.{Layout, Lawful, headSize, stepSize, mostSteps, placeOf, countAt}
+use Rattle.trace.specs.Published.{IsEvent, IsAnswer, AreEvents, head, eventBytes, answerBytes, startRecord}
+use Rattle.trace.specs.Published.{endRecord, stepShowing, stepRecord, stepRecords, run, published, Published}
+use Rattle.trace.specs.Report.{report, ACCEPTED, WRONG-STEP}
+use Rattle.trace.specs.Claims.{Meets, changed, ChangedAt, RefusesAll, AcceptsAll, ReadsStartAndEndOnly}
+use Rattle.trace.specs.Claims.{WalksTheOthers, InStep, InLaterBody}
+use Rattle.trace.proofs.Records.{shown-answer, length-run, bytes-run, length-begun, length-published}
 use Rattle.trace.proofs.Accepts.{published-accepted}
-use Rattle.trace.proofs.Changes.{are-second, unchanged, answer-changed}
+use Rattle.trace.proofs.Refusals.{accepts-exactly}
+use Rattle.trace.proofs.Changes.{below, unchanged, step-changed}
+use Rattle.trace.proofs.Determined.{count-read}
 
 -- ---- what is published is bytes
 
@@ -27,6 +34,37 @@ bytes-head len kind = bytes-append (le16 len) (le16 kind) (bytes-half len) (byte
 bytes-end : (n : ℕ) → Bytes (endRecord n)
 unfolding endRecord
 bytes-end n = bytes-append (head 8 3) (le32 n) (bytes-head 8 3) (bytes-word n)
+
+-- ---- strings that differ at some places alone
+
+-- what was changed at these places was changed at any places that hold them
+changed-within : {P Q : ℕ → Type 0} {s t : List ℕ} → ((i : ℕ) → P i → Q i) → ChangedAt P s t → ChangedAt Q s t
+changed-within more r = record { size = r .size; same = λ i n. r .same i (λ p. n (more i p)) }
+
+-- other bytes between p and t, as many as before
+module _ (p x y t : List ℕ) (l : length x ≡ length y) where
+  changed-between : ChangedAt (λ i. (length p ≤ i) × (i < length p + length x)) (p ++ (x ++ t)) (p ++ (y ++ t))
+  changed-between =
+      record {
+        size = simp length-append (omega arith);
+        same = λ i n. go i n (below i (length p)) (below i (length p + length x));
+      }
+    where
+      go : (i : ℕ) → ((length p ≤ i) × (i < length p + length x) → ⊥) → (i < length p) ⊎ (length p ≤ i)
+          → (i < length p + length x) ⊎ (length p + length x ≤ i)
+          → getD (p ++ (x ++ t)) i 0 ≡ getD (p ++ (y ++ t)) i 0
+      go i n (inl a) b = List·getD-append p (x ++ t) 0 i a ∙ sym (List·getD-append p (y ++ t) 0 i a)
+      go i n (inr a) (inl b) = absurd (n (a, b))
+      go i n (inr a) (inr b) =
+          let j : ℕ = i - (length p + length x) in
+          let to-x : i ≡ length p + (length x + j) = omega arith in
+          let to-y : i ≡ length p + (length y + j) = omega arith in
+          ap (λ (k : ℕ). getD (p ++ (x ++ t)) k 0) to-x
+          ∙ getD-append-add p (x ++ t) (length x + j) 0
+          ∙ getD-append-add x t j 0
+          ∙ sym (getD-append-add y t j 0)
+          ∙ sym (getD-append-add p (y ++ t) (length y + j) 0)
+          ∙ ap (λ (k : ℕ). getD (p ++ (y ++ t)) k 0) (sym to-y)
 
 module _ (L : Layout) (LL : Lawful L) where
   bytes-start : (n : ℕ) (b : List ℕ) → Bytes b → Bytes (startRecord L n b)
@@ -65,6 +103,10 @@ module _ (L : Layout) (LL : Lawful L) where
   pub meets-once : (f g : List ℕ → Report) → Meets L f → Meets L g → (s : List ℕ) → Bytes s → f s ≡ g s
   meets-once f g p q s by = p .reports s by ∙ sym (q .reports s by)
 
+  -- and one there is
+  pub meets-report : Meets L (report L)
+  meets-report = record { reports = λ s by. refl; exact = accepts-exactly L LL }
+
   -- a block of zeros
   abbrev zeros : List ℕ
   zeros = replicate (L .size) 0
@@ -73,37 +115,22 @@ module _ (L : Layout) (LL : Lawful L) where
   zeros-size = length-replicate (L .size) 0
 
   -- one that refuses all does not meet it
-  pub not-refusing-all : (f : List ℕ → Report) → ((s : List ℕ) → f s .number ≡ 0 → ⊥) → Meets L f → ⊥
+  pub not-refusing-all : (f : List ℕ → Report) → RefusesAll L f → Meets L f → ⊥
   not-refusing-all f h m =
       let s : List ℕ = published L zeros [] in
-      h s (ap (λ (v : Report). v .number)
-      (m .reports s (bytes-published zeros [] (bytes-zeros (L .size)))
-      ∙ published-accepted L LL zeros [] zeros-size (omega arith) tt))
+      let by : Bytes s = bytes-published zeros [] (bytes-zeros (L .size)) in
+      h s by
+      (ap (λ (v : Report). v .number)
+      (m .reports s by ∙ published-accepted L LL zeros [] zeros-size (omega arith) tt))
 
   -- one that accepts all does not meet it: no trace is empty
-  pub not-accepting-all : (f : List ℕ → Report) → ((s : List ℕ) → f s .number ≡ 0) → Meets L f → ⊥
+  pub not-accepting-all : (f : List ℕ → Report) → AcceptsAll L f → Meets L f → ⊥
   not-accepting-all f h m =
-      let p : Published L [] = m .exact [] bytes-none .0 (h []) in
+      let p : Published L [] = m .exact [] bytes-none .0 (h [] bytes-none) in
       let e : length (published L (p .start) (p .events)) ≡ 0 = sym (ap length (p .is)) in
       omega (arith, length-published L LL (p .start) (p .events) (p .size))
 
   -- ---- each Step is looked at
-
-  -- another number than this one, and an answer with another number
-  abbrev pub other : ℕ → ℕ
-  other zero = 1
-  other (suc n) = 0
-
-  abbrev pub otherwise : Answer → Answer
-  otherwise x = record { number = other (x .number); value = x .value }
-
-  other-fits : (n : ℕ) → other n < 2 ^ 32
-  other-fits zero = lit< tt
-  other-fits (suc n) = lit< tt
-
-  other-differs : (n : ℕ) → other n ≡ n → ⊥
-  other-differs zero e = omega arith
-  other-differs (suc n) e = omega arith
 
   bytes-changed : (b : List ℕ) (es : List Event) (e : Event) (x : Answer) (c : List ℕ) (fs : List Event) → Bytes b
       → Bytes c
@@ -118,32 +145,44 @@ module _ (L : Layout) (LL : Lawful L) where
       (bytes-append (stepRecords L d fs) (endRecord n)
       (bytes-steps fs d (LL .bytes-after (run L b es) e (bytes-run L LL es b h))) (bytes-end n))))
 
-  -- one that answers alike whether or not a Step's answer was changed does not meet it, whichever Step it is
-  module _ (b : List ℕ) (es : List Event) (e : Event) (fs : List Event) (h : length b ≡ L .size) (by : Bytes b)
-      (few : length (es ++ e ∷ fs) ≤ mostSteps) (words : AreEvents (es ++ e ∷ fs)) where
-    pub not-blind : (f : List ℕ → Report)
-        → f (changed L b es e (L .answer (run L b es) e) (L .after (run L b es) e) fs)
-        ≡ f (changed L b es e (otherwise (L .answer (run L b es) e)) (L .after (run L b es) e) fs)
-        → Meets L f → ⊥
-    not-blind f q m =
+  module _ (b : List ℕ) (es : List Event) (e : Event) (fs : List Event) (h : length b ≡ L .size) where
+    -- one that is blind to a Step does not meet it, whichever Step it is: a published trace keeps its number where that
+    -- Step shows anything but what the rules give
+    module _ (by : Bytes b) (few : length (es ++ e ∷ fs) ≤ mostSteps) (words : AreEvents (es ++ e ∷ fs)) where
+      pub not-blind : (f : List ℕ → Report) (x : Answer) (c : List ℕ) → length c ≡ L .size → Bytes c
+          → (stepShowing L e x c ≡ stepRecord L (run L b es) e → ⊥)
+          → f (published L b (es ++ e ∷ fs)) .number ≡ f (changed L b es e x c fs) .number
+          → Meets L f → ⊥
+      not-blind f x c size bc n q m =
+          let yes = m .reports (published L b (es ++ e ∷ fs)) (bytes-published b (es ++ e ∷ fs) by)
+          ∙ published-accepted L LL b (es ++ e ∷ fs) h few words in
+          let no = m .reports (changed L b es e x c fs) (bytes-changed b es e x c fs by bc)
+          ∙ step-changed L LL b es e fs h few words x c size n in
+          let number : Report → ℕ = λ v. v .number in
+          let z : _≡_ {A = ℕ} ACCEPTED WRONG-STEP = sym (ap number yes) ∙ q ∙ ap number no in
+          omega arith
+
+    -- what was changed lies in that Step's body
+    changed-body : (x : Answer) (c : List ℕ) → length c ≡ L .size
+        → ChangedAt (λ i. (placeOf L (length es) + headSize ≤ i) × (i < placeOf L (suc (length es))))
+        (published L b (es ++ e ∷ fs)) (changed L b es e x c fs)
+    unfolding changed stepShowing
+    changed-body x c size =
+        let n : ℕ = length es + suc (length fs) in
         let d : List ℕ = run L b es in
-        let right : Answer = L .answer d e in
-        let wrong : Answer = otherwise right in
-        let left : List ℕ = L .after d e in
-        let bd : Bytes left = LL .bytes-after d e (bytes-run L LL es b by) in
-        let fits : IsAnswer wrong =
-        record {
-          number = other-fits (L .answer d e .number);
-          value = LL .value-fits d e (bytes-run L LL es b by);
-        } in
-        let yes = m .reports (changed L b es e right left fs) (bytes-changed b es e right left fs by bd)
-        ∙ ap (report L) (unchanged L LL b es e fs)
-        ∙ published-accepted L LL b (es ++ e ∷ fs) h few words in
-        let no = m .reports (changed L b es e wrong left fs) (bytes-changed b es e wrong left fs by bd)
-        ∙ answer-changed L LL b es e fs h few words by wrong fits
-        (λ w. other-differs (L .answer d e .number) (ap (λ (x : Answer). x .number) w)) in
-        let n : _≡_ {A = ℕ} 0 WRONG-STEP = ap (λ (v : Report). v .number) (sym yes ∙ q ∙ no) in
-        omega arith
+        let body : Answer → List ℕ → List ℕ = λ x c. eventBytes e ++ (answerBytes x ++ c) in
+        let before : List ℕ = startRecord L n b ++ (stepRecords L b es ++ head (stepSize L) (L .stepKind)) in
+        let behind : List ℕ = stepRecords L (L .after d e) fs ++ endRecord n in
+        let right : List ℕ = body (L .answer d e) (L .after d e) in
+        let long : length before ≡ placeOf L (length es) + headSize =
+        simp length-append (omega (arith, simp length-append at (length-begun L LL n b es h))) in
+        let size-right = LL .length-after d e ∙ length-run L LL es b ∙ h in
+        let s : published L b (es ++ e ∷ fs) ≡ before ++ (right ++ behind) =
+        sym (unchanged L LL b es e fs) ∙ sym (simp append-assoc) in
+        let t : changed L b es e x c fs ≡ before ++ (body x c ++ behind) = sym (simp append-assoc) in
+        rw (s, t)
+        (changed-within (λ i p. (omega arith, omega (arith, mul-suc (stepSize L) (length es))))
+        (changed-between before right (body x c) behind (omega arith)))
 
   -- an event of zeros, and that it is one
   abbrev none : Event
@@ -152,41 +191,61 @@ module _ (L : Layout) (LL : Lawful L) where
   none-is : IsEvent none
   none-is = record { code = lit< tt; a = lit< tt; b = lit< tt }
 
-  -- two Steps that differ in the answer shown are as long as each other
-  alike : (b : List ℕ) (x y : Answer) → length b ≡ L .size
-      → length (stepShowing L none x (L .after b none)) ≡ length (stepShowing L none y (L .after b none))
-  alike b x y h =
-      let l = LL .length-after b none ∙ h in
-      length-step L LL none x (L .after b none) l ∙ sym (length-step L LL none y (L .after b none) l)
+  -- another number than this one
+  abbrev other : ℕ → ℕ
+  other zero = 1
+  other (suc n) = 0
 
-  -- one that reads Start and End only does not meet it
-  pub not-ends-only : (f : List ℕ → Report)
-      → ((n : ℕ) (b x y : List ℕ) → length x ≡ length y
-      → f (startRecord L n b ++ (x ++ endRecord n)) ≡ f (startRecord L n b ++ (y ++ endRecord n)))
-      → Meets L f → ⊥
-  unfolding changed stepRecords run
-  not-ends-only f h =
-      let x : Answer = L .answer zeros none in
-      not-blind zeros [] none [] zeros-size (bytes-zeros (L .size)) (omega arith) (none-is, tt) f
-      (h 1 zeros (stepShowing L none x (L .after zeros none)) (stepShowing L none (otherwise x) (L .after zeros none))
-      (alike zeros x (otherwise x) zeros-size))
+  other-fits : (n : ℕ) → other n < 2 ^ 32
+  other-fits zero = lit< tt
+  other-fits (suc n) = lit< tt
 
-  -- one that checks the first Step and walks the others does not meet it
-  pub not-first-only : (f : List ℕ → Report)
-      → ((n : ℕ) (b : List ℕ) (e : Event) (x y : List ℕ) → length x ≡ length y
-      → f (startRecord L n b ++ (stepRecord L b e ++ (x ++ endRecord n)))
-      ≡ f (startRecord L n b ++ (stepRecord L b e ++ (y ++ endRecord n))))
-      → Meets L f → ⊥
-  unfolding changed stepRecords run
-  not-first-only f h =
-      let b : List ℕ = L .after zeros none in
-      let x : Answer = L .answer b none in
-      let c : List ℕ = L .after b none in
-      let one = append-nil (stepRecord L zeros none) in
-      let said : List ℕ → Answer → Report = λ l y. f
-      (startRecord L 2 zeros ++ (l ++ (stepShowing L none y c ++ endRecord 2))) in
-      not-blind zeros (none ∷ []) none [] zeros-size (bytes-zeros (L .size)) (omega arith) (none-is, (none-is, tt)) f
-      (ap (λ (l : List ℕ). said l x) one
-      ∙ h 2 zeros none (stepShowing L none x c) (stepShowing L none (otherwise x) c)
-      (alike b x (otherwise x) (LL .length-after zeros none ∙ zeros-size))
-      ∙ sym (ap (λ (l : List ℕ). said l (otherwise x)) one))
+  other-differs : (n : ℕ) → other n ≡ n → ⊥
+  other-differs zero e = omega arith
+  other-differs (suc n) e = omega arith
+
+  -- one that verifies the first Step and merely walks the others does not meet it: in a trace of two Steps the second
+  -- was changed
+  pub not-first-only : (f : List ℕ → Report) → WalksTheOthers L f → Meets L f → ⊥
+  not-first-only f walks m =
+      let first : List Event = none ∷ [] in
+      let both : List Event = none ∷ none ∷ [] in
+      let d : List ℕ = run L zeros first in
+      let by : Bytes d = bytes-run L LL first zeros (bytes-zeros (L .size)) in
+      let c : List ℕ = L .after d none in
+      let bytes : Bytes c = LL .bytes-after d none by in
+      let size : length c ≡ L .size = LL .length-after d none ∙ length-run L LL first zeros ∙ zeros-size in
+      let right : Answer = L .answer d none in
+      let wrong : Answer = record { number = other (right .number); value = right .value } in
+      let right-fits : IsAnswer right =
+      record { number = LL .number-fits d none; value = LL .value-fits d none by } in
+      let wrong-fits : IsAnswer wrong =
+      record { number = other-fits (right .number); value = LL .value-fits d none by } in
+      let s : Published L (published L zeros both) =
+      record {
+        start = zeros;
+        events = both;
+        size = zeros-size;
+        bytes = bytes-zeros (L .size);
+        few = omega arith;
+        words = (none-is, (none-is, tt));
+        is = refl;
+      } in
+      let two : spelt (published L zeros both) countAt ≡ 2 = count-read L LL (published L zeros both) s in
+      not-blind zeros first none [] zeros-size (s .bytes) (s .few) (s .words) f wrong c size bytes
+      (λ q. other-differs (right .number)
+      (ap (λ (x : Answer). x .number) (shown-answer L LL none none wrong right c c wrong-fits right-fits q)))
+      (walks _ _ s (bytes-changed zeros first none wrong c [] (s .bytes) bytes)
+      (changed-within
+      (λ i p.
+      record {
+        at = record { step = 1; counted = omega arith; from = omega arith; to = p .1 };
+        later = omega arith;
+        body = p .0;
+      })
+      (changed-body zeros first none [] zeros-size wrong c size)))
+      m
+
+  -- nor does one that reads Start and End only, since it walks the others too
+  pub not-ends-only : (f : List ℕ → Report) → ReadsStartAndEndOnly L f → Meets L f → ⊥
+  not-ends-only f reads = not-first-only f (λ s t p by r. reads s t p by (changed-within (λ i w. w .at) r))

@@ -5,7 +5,7 @@ use Prim.Native.Nat.{ℕ, suc}
 use native.Mathlib.Omega.{arith}
 use lib.ListN.{length, drop}
 use Rattle.words.specs.Word.{spelt}
-use Rattle.machine.specs.declared.event.Event.{Event}
+use Rattle.rules.specs.declared.event.Event.{Event}
 use Rattle.trace.specs.Layout.{Layout, Lawful, startSize}
 use Rattle.trace.specs.Published.{AreEvents, endRecord, stepRecord, stepRecords, published, Published}
 use Rattle.trace.specs.Claims.{startOf, eventsFrom, eventsOf}

@@ -13,8 +13,8 @@ use lib.Seq.{take-all, take-length, drop-drop}
 use borrow.Author.Tests.{le-leb, lt-leb, leb-true}
 use Rattle.words.specs.Word.{half, spelt, Bytes}
 use Rattle.words.proofs.Spell.{two-halves, as-word}
-use Rattle.machine.specs.declared.event.Event.{Event}
-use Rattle.machine.specs.declared.verdict.Answer.{Answer}
+use Rattle.rules.specs.declared.event.Event.{Event}
+use Rattle.rules.specs.declared.verdict.Answer.{Answer}
 use Rattle.trace.specs.Layout.{Layout, Lawful, startSize, stepSize, endSize, mostSteps, placeOf, blockAfterAt}
 use Rattle.trace.specs.Published.{IsAnswer, stepShowing, stepRecord}
 use Rattle.trace.specs.Report.{_else_, headNumber, startNumber, stepNumber, endNumber, endReport, reportFrom, report, eventOf, refused, BAD-RECORD, WRONG-STEP, TRAILING}

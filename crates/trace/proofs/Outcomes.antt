@@ -8,7 +8,7 @@ use native.Mathlib.Omega.{arith}
 use lib.ListN.{length, drop}
 use Rattle.words.specs.Word.{spelt, Bytes}
 use Rattle.words.proofs.Spell.{bytes-drop}
-use Rattle.machine.specs.declared.event.Event.{Event}
+use Rattle.rules.specs.declared.event.Event.{Event}
 use Rattle.trace.specs.Layout.{Layout, Lawful, stepSize, mostSteps, placeOf}
 use Rattle.trace.specs.Published.{AreEvents, startRecord, stepRecord, stepRecords, run}
 use Rattle.trace.specs.Report.{startNumber, stepNumber, endReport, reportFrom, report, eventOf}

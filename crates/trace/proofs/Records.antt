@@ -10,8 +10,8 @@ use lib.Seq.{drop-at, take-at, drop-drop, take-append-add}
 use Rattle.words.specs.Word.{le16, le32, half, spelt, Bytes}
 use Rattle.words.proofs.Laws.{spells, spelt-fits}
 use Rattle.words.proofs.Spell.{spells-half, spelt-split, half-split}
-use Rattle.machine.specs.declared.event.Event.{Event}
-use Rattle.machine.specs.declared.verdict.Answer.{Answer}
+use Rattle.rules.specs.declared.event.Event.{Event}
+use Rattle.rules.specs.declared.verdict.Answer.{Answer}
 use Rattle.trace.specs.Layout.{Layout, Lawful, startSize, stepSize, endSize, endKind, placeOf}
 use Rattle.trace.specs.Published.{IsEvent, IsAnswer, head, startRecord, endRecord, stepShowing, stepRecord, stepRecords, run, published}
 use Rattle.trace.specs.Report.{headNumber, eventOf}

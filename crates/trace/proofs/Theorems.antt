@@ -6,14 +6,15 @@ use Prim.Native.Nat.{ℕ, _+_, _<_, _≤_, _^_}
 use native.Mathlib.Omega.{arith}
 use lib.ListN.{length, take}
 use Rattle.words.specs.Word.{word, put, Bytes}
-use Rattle.machine.specs.declared.event.Event.{Event}
-use Rattle.machine.specs.declared.verdict.Answer.{Answer}
-use Rattle.machine.specs.Step.{answer, after}
+use Rattle.rules.specs.declared.event.Event.{Event}
+use Rattle.rules.specs.declared.verdict.Answer.{Answer}
+use Rattle.rules.specs.Step.{answer, after}
 use Rattle.trace.specs.declared.Report.{Report}
 use Rattle.trace.specs.Layout.{layout01, mostSteps, placeOf}
-use Rattle.trace.specs.Published.{IsAnswer, AreEvents, startRecord, endRecord, stepRecord, run, published, Published}
+use Rattle.trace.specs.Published.{IsAnswer, AreEvents, stepShowing, stepRecord, run, published, Published}
 use Rattle.trace.specs.Report.{report, ACCEPTED, SHORT, BAD-RECORD, BAD-COUNT, WRONG-STEP, TRAILING}
 use Rattle.trace.specs.Claims.{Accepted, Begun, Trailed, dueSize, judgedTo, CutAt, Falls, changed, Meets}
+use Rattle.trace.specs.Claims.{RefusesAll, AcceptsAll, ReadsStartAndEndOnly, WalksTheOthers}
 use Rattle.trace.proofs.Lawful01.{lawful01}
 use Rattle.trace.proofs.Accepts as accepts
 use Rattle.trace.proofs.Refusals as refusals
@@ -102,6 +103,13 @@ module _ (b : List ℕ) (h : length b ≡ 176) where
   -- with one Step changed it is refused with 11 at that Step's first byte, Steps being its index
   module _ (es : List Event) (e : Event) (fs : List Event) (few : length (es ++ e ∷ fs) ≤ mostSteps)
       (words : AreEvents (es ++ e ∷ fs)) where
+    -- anything of it
+    pub step-changed : (x : Answer) (c : List ℕ) → length c ≡ 176
+        → (stepShowing layout01 e x c ≡ stepRecord layout01 (run layout01 b es) e → ⊥)
+        → report layout01 (changed layout01 b es e x c fs)
+        ≡ record { number = WRONG-STEP; place = placeOf layout01 (length es); steps = length es }
+    step-changed = changes.step-changed layout01 lawful01 b es e fs h few words
+
     -- its answer or its value
     pub answer-changed : Bytes b → (x : Answer) → IsAnswer x → (x ≡ answer (run layout01 b es) e → ⊥)
         → report layout01 (changed layout01 b es e x (after (run layout01 b es) e) fs)
@@ -123,26 +131,35 @@ module _ (b : List ℕ) (h : length b ≡ 176) where
 
 -- ---- checkers
 
--- two that meet the statement agree
+-- two that meet the statement agree, and the report is what they answer
 pub meets-once : (f g : List ℕ → Report) → Meets layout01 f → Meets layout01 g → (s : List ℕ) → Bytes s → f s ≡ g s
 meets-once = checkers.meets-once layout01 lawful01
 
--- one that accepts all, refuses all, reads Start and End only, or checks the first Step and walks the others, does not
-pub not-accepting-all : (f : List ℕ → Report) → ((s : List ℕ) → f s .number ≡ 0) → Meets layout01 f → ⊥
-not-accepting-all = checkers.not-accepting-all layout01 lawful01
+pub meets-report : Meets layout01 (report layout01)
+meets-report = checkers.meets-report layout01 lawful01
 
-pub not-refusing-all : (f : List ℕ → Report) → ((s : List ℕ) → f s .number ≡ 0 → ⊥) → Meets layout01 f → ⊥
+-- one that refuses all does not meet it, nor one that accepts all
+pub not-refusing-all : (f : List ℕ → Report) → RefusesAll layout01 f → Meets layout01 f → ⊥
 not-refusing-all = checkers.not-refusing-all layout01 lawful01
 
-pub not-ends-only : (f : List ℕ → Report)
-    → ((n : ℕ) (b x y : List ℕ) → length x ≡ length y
-    → f (startRecord layout01 n b ++ (x ++ endRecord n)) ≡ f (startRecord layout01 n b ++ (y ++ endRecord n)))
-    → Meets layout01 f → ⊥
+pub not-accepting-all : (f : List ℕ → Report) → AcceptsAll layout01 f → Meets layout01 f → ⊥
+not-accepting-all = checkers.not-accepting-all layout01 lawful01
+
+-- nor one that reads Start and End only, nor one that verifies the first Step and merely walks the others
+pub not-ends-only : (f : List ℕ → Report) → ReadsStartAndEndOnly layout01 f → Meets layout01 f → ⊥
 not-ends-only = checkers.not-ends-only layout01 lawful01
 
-pub not-first-only : (f : List ℕ → Report)
-    → ((n : ℕ) (b : List ℕ) (e : Event) (x y : List ℕ) → length x ≡ length y
-    → f (startRecord layout01 n b ++ (stepRecord layout01 b e ++ (x ++ endRecord n)))
-    ≡ f (startRecord layout01 n b ++ (stepRecord layout01 b e ++ (y ++ endRecord n))))
-    → Meets layout01 f → ⊥
+pub not-first-only : (f : List ℕ → Report) → WalksTheOthers layout01 f → Meets layout01 f → ⊥
 not-first-only = checkers.not-first-only layout01 lawful01
+
+-- nor one that is blind to a Step, whichever it is: some published trace keeps its number where that Step shows anything
+-- but what the rules give
+pub not-blind : (f : List ℕ → Report) (b : List ℕ) (es : List Event) (e : Event) (fs : List Event) (x : Answer)
+    (c : List ℕ)
+    → length b ≡ 176 → Bytes b → length (es ++ e ∷ fs) ≤ mostSteps → AreEvents (es ++ e ∷ fs) → length c ≡ 176
+    → Bytes c
+    → (stepShowing layout01 e x c ≡ stepRecord layout01 (run layout01 b es) e → ⊥)
+    → f (published layout01 b (es ++ e ∷ fs)) .number ≡ f (changed layout01 b es e x c fs) .number
+    → Meets layout01 f → ⊥
+not-blind f b es e fs x c h by few words size bc =
+    checkers.not-blind layout01 lawful01 b es e fs h by few words f x c size bc

@@ -1,19 +1,24 @@
 -- Words for what the theorems say of a report: what stands before its place, how far the string was judged, what a cut and
--- a changed trace are, and what it is to be a checker.
+-- a changed trace are, what it is to be a checker, and the wrong checkers that the paper names.
 use mathlib.Core.Path.{_≡_}
 use mathlib.Core.Logic.{_↔_}
 use mathlib.Core.List.{List, [], _∷_, _++_}
 use Prim.Native.Nat.{ℕ, zero, suc, _+_, _<_, _≤_}
-use lib.ListN.{length, take, drop}
+use lib.ListN.{length, take, drop, getD}
 use lib.Dec.{eqb, ltb}
 use Rattle.words.specs.Word.{spelt, Bytes}
 use Rattle.state.specs.Choice.{if_then_else_}
-use Rattle.machine.specs.declared.event.Event.{Event}
-use Rattle.machine.specs.declared.verdict.Answer.{Answer}
+use Rattle.rules.specs.declared.event.Event.{Event}
+use Rattle.rules.specs.declared.verdict.Answer.{Answer}
 use Rattle.trace.specs.declared.Report.{Report}
 use Rattle.trace.specs.Layout.{Layout, headSize, startSize, stepSize, endSize, mostSteps, placeOf, countAt, startBlockAt}
 use Rattle.trace.specs.Published.{AreEvents, startRecord, endRecord, stepShowing, stepRecords, run, Published}
-use Rattle.trace.specs.Report.{eventOf, report, BAD-RECORD}
+use Rattle.trace.specs.Report.{eventOf, report, ACCEPTED, BAD-RECORD}
+
+-- t is s, but for bytes at these places
+pub record ChangedAt (places : ℕ → Type 0) (s t : List ℕ) : Type 0 where
+  pub size : length s ≡ length t
+  pub same : (i : ℕ) → (places i → ⊥) → getD s i 0 ≡ getD t i 0
 
 module _ (L : Layout) where
   -- s is a published trace, the place is its length, and Steps is how many events it has
@@ -86,4 +91,41 @@ module _ (L : Layout) where
   -- what the contract of the checker asks of a function from byte strings to reports
   pub record Meets (f : List ℕ → Report) : Type 0 where
     pub reports : (s : List ℕ) → Bytes s → f s ≡ report L s
-    pub exact : (s : List ℕ) → Bytes s → (f s .number ≡ 0) ↔ Published L s
+    pub exact : (s : List ℕ) → Bytes s → (f s .number ≡ ACCEPTED) ↔ Published L s
+
+  -- ---- the wrong checkers (document 01, "What the statements have to say")
+
+  -- "refuses all"
+  abbrev pub RefusesAll : (List ℕ → Report) → Type 0
+  RefusesAll f = (s : List ℕ) → Bytes s → f s .number ≡ ACCEPTED → ⊥
+
+  -- "accepts all"
+  abbrev pub AcceptsAll : (List ℕ → Report) → Type 0
+  AcceptsAll f = (s : List ℕ) → Bytes s → f s .number ≡ ACCEPTED
+
+  -- the byte at i lies in one of the Steps that the Start of s counts; they are counted from 0
+  pub record InStep (s : List ℕ) (i : ℕ) : Type 0 where
+    pub step : ℕ
+    pub counted : step < spelt s countAt
+    pub from : placeOf L step ≤ i
+    pub to : i < placeOf L (suc step)
+
+  -- and in its body, behind the head, the Step not being the first
+  pub record InLaterBody (s : List ℕ) (i : ℕ) : Type 0 where
+    pub at : InStep s i
+    pub later : 0 < at .step
+    pub body : placeOf L (at .step) + headSize ≤ i
+
+  -- f leaves these places unread: a published trace that is changed there keeps its number. Nothing is asked of f on other
+  -- strings, nor of place and Steps.
+  abbrev pub LeavesUnread : (List ℕ → ℕ → Type 0) → (List ℕ → Report) → Type 0
+  LeavesUnread places f =
+      (s t : List ℕ) → Published L s → Bytes t → ChangedAt (places s) s t → f s .number ≡ f t .number
+
+  -- "reads Start and End only"
+  abbrev pub ReadsStartAndEndOnly : (List ℕ → Report) → Type 0
+  ReadsStartAndEndOnly f = LeavesUnread InStep f
+
+  -- "verifies the first Step and merely walks the others": it may read their heads, and not their bodies
+  abbrev pub WalksTheOthers : (List ℕ → Report) → Type 0
+  WalksTheOthers f = LeavesUnread InLaterBody f

@@ -4,7 +4,7 @@ use mathlib.Core.List.{List}
 use Prim.Native.Nat.{ℕ}
 use lib.ListN.{take, drop}
 use Rattle.words.specs.Word.{spelt}
-use Rattle.machine.specs.declared.verdict.Answer.{Answer}
+use Rattle.rules.specs.declared.verdict.Answer.{Answer}
 use Rattle.trace.specs.Layout.{Layout, numberAt, valueAt, blockAfterAt}
 use Rattle.trace.specs.Report.{ACCEPTED, stepNumber, eventOf}
 

@@ -8,9 +8,9 @@ use Prim.Native.Nat.{ℕ, _+_, _*_, _<_, _^_}
 use lib.ListN.{length}
 use Rattle.words.specs.Word.{Bytes}
 use Rattle.state.specs.Place.{BLOCK-SIZE}
-use Rattle.machine.specs.declared.event.Event.{Event}
-use Rattle.machine.specs.declared.verdict.Answer.{Answer}
-use Rattle.machine.specs.Step.{answer, after}
+use Rattle.rules.specs.declared.event.Event.{Event}
+use Rattle.rules.specs.declared.verdict.Answer.{Answer}
+use Rattle.rules.specs.Step.{answer, after}
 
 -- the bytes of a block, the kinds of a Start and of a Step, and the rules: what an event answers, and the block after it
 pub record Layout : Type 0 where

@@ -4,8 +4,8 @@ use mathlib.Core.List.{List, [], _∷_, _++_}
 use Prim.Native.Nat.{ℕ, _<_, _≤_, _^_}
 use lib.ListN.{length}
 use Rattle.words.specs.Word.{le16, le32, Bytes}
-use Rattle.machine.specs.declared.event.Event.{Event}
-use Rattle.machine.specs.declared.verdict.Answer.{Answer}
+use Rattle.rules.specs.declared.event.Event.{Event}
+use Rattle.rules.specs.declared.verdict.Answer.{Answer}
 use Rattle.trace.specs.Layout.{Layout, startSize, stepSize, endSize, endKind, mostSteps}
 
 -- an event is three words (document 01, "Events")

@@ -9,7 +9,7 @@ use Prim.Native.Nat.{ℕ, zero, suc, _+_}
 use lib.ListN.{length, take, drop}
 use lib.Dec.{eqb, leb}
 use Rattle.words.specs.Word.{half, spelt}
-use Rattle.machine.specs.declared.event.Event.{Event}
+use Rattle.rules.specs.declared.event.Event.{Event}
 use Rattle.trace.specs.declared.Report.{Report}
 use Rattle.trace.specs.Layout.{Layout, headSize, startSize, stepSize, endSize, endKind, mostSteps, placeOf, lengthAt, kindAt, countAt, startBlockAt, codeAt, aAt, bAt}
 use Rattle.trace.specs.Published.{stepRecord}

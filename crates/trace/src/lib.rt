@@ -13,7 +13,7 @@ ghost use mathlib.Core.Logic.{_↔_};
 ghost use Prim.Native.Nat.{_+_, _≤_, _<_, _^_};
 ghost use lib.ListN.{length, drop};
 ghost use Rattle.words.specs.Word.{word};
-ghost use Rattle.machine.specs.Step.{ANSWER-SIZE};
+ghost use Rattle.rules.specs.Step.{ANSWER-SIZE};
 ghost use Rattle.trace.specs.Layout.{layout01, startSize, stepSize, endSize, mostSteps};
 ghost use Rattle.trace.specs.Published.{Published};
 ghost use Rattle.trace.specs.Report.{headNumber, startNumber, stepNumber, endNumber, endReport, reportFrom, report};

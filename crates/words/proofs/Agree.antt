@@ -49,3 +49,9 @@ module _ (a b : List ℕ) (m : ℕ) {r : Bool} (front : (r ≡ true) ↔ Agree a
       at : (j : ℕ) → j < length a → (s : Bool) → leb m j ≡ s → t ≡ true → getD a j 0 ≡ getD b j 0
       at j k true g e = rest .0 e j k (leb-true m j g)
       at j k false g e = front .0 (not-false r h) j (leb-false m j g) (omega arith)
+
+-- two answers to one question are the same answer: what `same` says determines it, though it is no equation
+pub same-once : (P : Type 0) (r s : Bool) → (r ≡ true) ↔ P → (s ≡ true) ↔ P → r ≡ s
+same-once P true s h k = sym (k .1 (h .0 refl))
+same-once P false true h k = h .1 (k .0 refl)
+same-once P false false h k = refl

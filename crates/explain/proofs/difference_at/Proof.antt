@@ -1,9 +1,9 @@
 -- The copy is the block that stands right before the Step, and the rest of the slice is the string from the Step on.
-use mathlib.Core.List.{List}
+use mathlib.Core.List.{List, _++_}
 use mathlib.Core.Path.{_≡_, ap, _∙_}
 use Prim.Native.Nat.{ℕ, _-_}
 use borrow.Author.Needs.{needs}
-use lib.ListN.{length, take, drop, length-take, length-drop}
+use lib.ListN.{length, take, drop, replicate, length-take, length-drop}
 use native.Mathlib.Omega.{arith}
 use Rattle.explain.proofs.difference_at.Statement.{statement}
 use Rattle.explain.proofs.difference_at.Tie as tie
@@ -54,7 +54,8 @@ returns c =
     let b : List ℕ = take (at - before) (drop before s) in
     let size : BLOCK-SIZE ≡ length b =
     omega (arith, length-take (at - before) (drop before s), length-drop before s) in
-    let copy = c .before .before .before .before .before .copy .ensures .1 in
+    let call = c .before .before .before .before .before .copy in
+    let copy : call .last .1 .0 ≡ take (length b) b ++ drop (length b) (replicate BLOCK-SIZE 0) = call .ensures .1 in
     let block = copied b _ _ size copy ∙ ap (λ (k : ℕ). take k (drop before s)) n in
     c .before .step-difference .ensures ∙ (λ i. stepDifference layout01 (block i) (rest-is s at i))
 

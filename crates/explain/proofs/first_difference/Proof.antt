@@ -49,10 +49,11 @@ add-t11 c = search needs
 
 returns-3 : tie.Need-returns-3 Inv-loop μ-loop
 returns-3 c =
-    let found = c .before .before .get-word .ensures in
-    let due = c .before .get-word2 .ensures in
     let turn = c .before .before .before .before in
     let args = turn .before .before .before .before .before .before .before .before .before .args in
+    let found : c .before .before .get-word .result ≡ word (args .after .now) (turn .loop .p) =
+    c .before .before .get-word .ensures in
+    let due : c .before .get-word2 .result ≡ word (args .block .now) (turn .loop .p) = c .before .get-word2 .ensures in
     (λ i. record { part = BLOCK-PART + turn .loop .p; found = found i; due = due i })
     ∙ sym
     (block-differs (args .shown) (args .due) (args .after .now) (args .block .now) (turn .before .before .before .before .if1 .left)

@@ -4,7 +4,7 @@ use borrow.Author.Needs.{needs}
 use Rattle.explain.proofs.Explaining.{compared}
 use Rattle.explain.proofs.step_difference.Statement.{statement}
 use Rattle.explain.proofs.step_difference.Tie as tie
-use Rattle.machine.specs.Step.{answer, after}
+use Rattle.rules.specs.Step.{answer, after}
 use Rattle.trace.proofs.Judging.{event-read}
 use Rattle.trace.specs.Layout.{layout01}
 

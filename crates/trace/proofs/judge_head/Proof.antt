@@ -8,7 +8,9 @@ use Rattle.trace.proofs.judge_head.Tie as tie
 use Rattle.words.specs.Word.{Bytes}
 
 returns : tie.Need-returns
-returns c = sym (head-short _ _ _ (c .if1 .taken))
+returns c =
+    let start = c .before .before in
+    sym (head-short (start .args .size) (start .args .kind) (start .args .r .now) (c .if1 .taken))
 
 word-at-requires : tie.Need-word-at-requires
 word-at-requires c κs = search needs

@@ -1,17 +1,17 @@
--- Each turn judges the Step due; what the report says of the whole is what it says from the record reached on.
+-- Each turn judges the Step due: a fault is told at once, and without one the next Step is due. So what the report says of
+-- the whole is what it says from the record reached on.
 use mathlib.Core.List.{List}
-use mathlib.Core.Path.{sym, ap, _∙_}
+use mathlib.Core.Path.{_≡_, sym, ap, _∙_}
 use Prim.Native.Nat.{ℕ, _-_}
+use native.Mathlib.Omega.{arith}
 use borrow.Author.Needs.{needs}
-use Rattle.machine.specs.Step.{after}
+use Rattle.rules.specs.Step.{after}
 use Rattle.trace.proofs.Judging.{Reached, reached-none, reached-wrong, reached-next, reached-end, rest-is}
 use Rattle.trace.proofs.Lawful01.{lawful01}
 use Rattle.trace.proofs.judge_rest.Statement.{statement}
 use Rattle.trace.proofs.judge_rest.Tie as tie
 use Rattle.trace.specs.Layout.{layout01}
-use Rattle.trace.specs.Report.{stepNumber, endReport, eventOf}
-
--- Each turn judges the Step due; what the report says of the whole is what it says from the record reached on.
+use Rattle.trace.specs.Report.{ACCEPTED, stepNumber, endReport, eventOf}
 
 abbrev Inv-loop : tie.InvT-loop
 Inv-loop trace steps block₀ k₀ place₀ block k place = Reached layout01 trace steps block₀ block k place
@@ -50,7 +50,7 @@ returns c =
     let e = judged .judge-step .ensures .number
     ∙ ap (stepNumber layout01 (loop .block)) (rest-is (args .trace .now) (loop .place)) in
     reached-wrong layout01 lawful01 (args .trace .now) (args .steps) (args .block .now) (loop .block) (loop .k)
-    (loop .place) (loop .inv) (turn .loop-test .taken) _ e (c .if1 .taken)
+    (loop .place) (loop .inv) (turn .loop-test .taken) _ e (λ z. omega arith)
 
 add-k : tie.Need-add-k Inv-loop μ-loop
 add-k c = search needs
@@ -67,12 +67,13 @@ loop-again c =
     let turn = judged .before .before .before in
     let loop = turn .before .loop in
     let args = turn .before .before .before .before .args in
+    let no-fault : judged .judge-step .result ≡ ACCEPTED = omega arith in
     let rest = rest-is (args .trace .now) (loop .place) in
     let e = judged .judge-step .ensures .number ∙ ap (stepNumber layout01 (loop .block)) rest in
-    let b = judged .judge-step .ensures .block (c .if1 .left)
+    let b = judged .judge-step .ensures .block no-fault
     ∙ ap (λ (r : List ℕ). after (loop .block) (eventOf r)) rest in
     reached-next layout01 lawful01 (args .trace .now) (args .steps) (args .block .now) (loop .block) (loop .k)
-    (loop .place) (loop .inv) (turn .loop-test .taken) (sym e ∙ c .if1 .left) _ b
+    (loop .place) (loop .inv) (turn .loop-test .taken) (sym e ∙ no-fault) _ b
 
 cast-at-2 : tie.Need-cast-at-2 Inv-loop μ-loop
 cast-at-2 c = search needs

@@ -4,7 +4,6 @@ use mathlib.Core.List.{List}
 use mathlib.Core.Path.{_≡_, refl, ap, _∙_}
 use Prim.Native.Nat.{ℕ}
 use borrow.Author.Needs.{needs}
-use borrow.Author.Tests.{eq-eqb, ne-eqb}
 use Rattle.entry.proofs.enter.base_of.Statement.{statement}
 use Rattle.entry.proofs.enter.base_of.Tie as tie
 use Rattle.entry.specs.Enter.{vectorBase}
@@ -20,12 +19,18 @@ at-either : (b : List ℕ) (t : Bool) (p q : ℕ) → word b (if t then p else q
 at-either b true p q = refl
 at-either b false p q = refl
 
+is-requires : tie.Need-is-requires
+is-requires c κs = search needs
+
 get-word-requires : tie.Need-get-word-requires
 get-word-requires c κs = search needs
 
 returns : tie.Need-returns
 unfolding vectorBase
-returns c = rw (eq-eqb _ _ (c .before .if1 .taken)) (c .get-word .ensures)
+returns c = rw (told (c .before .before .is .ensures) (c .before .if1 .taken)) (c .get-word .ensures)
+
+is-requires-2 : tie.Need-is-requires-2
+is-requires-2 c κs = search needs
 
 get-word-requires-2 : tie.Need-get-word-requires-2
 get-word-requires-2 c κs = search needs
@@ -33,7 +38,9 @@ get-word-requires-2 c κs = search needs
 returns-2 : tie.Need-returns-2
 unfolding vectorBase
 returns-2 c =
-    rw (ne-eqb _ _ (c .before .before .before .if1 .left), eq-eqb _ _ (c .before .if2 .taken)) (c .get-word2 .ensures)
+    let else1 = c .before .before .before in
+    rw (told (else1 .before .is .ensures) (else1 .if1 .left), told (c .before .before .is2 .ensures) (c .before .if2 .taken))
+    (c .get-word2 .ensures)
 
 sctlr-v-requires : tie.Need-sctlr-v-requires
 sctlr-v-requires c κs = search needs
@@ -41,10 +48,11 @@ sctlr-v-requires c κs = search needs
 returns-3 : tie.Need-returns-3
 unfolding vectorBase
 returns-3 c =
-    let w = c .before .before in
+    let else2 = c .before .before in
+    let else1 = else2 .before .before in
     rw (
-      ne-eqb _ _ (w .before .before .if1 .left),
-      ne-eqb _ _ (w .if2 .left),
+      told (else1 .before .is .ensures) (else1 .if1 .left),
+      told (else2 .before .is2 .ensures) (else2 .if2 .left),
       told (c .before .sctlr-v .ensures) (c .if3 .taken),
     )
 
@@ -57,13 +65,15 @@ get-word-requires-3 c κs = search needs
 returns-4 : tie.Need-returns-4
 unfolding vectorBase
 returns-4 c =
-    let w = c .before .before .before .before in
-    let start = w .before .before .before .before .before in
+    let else3 = c .before .before in
+    let else2 = else3 .before .before in
+    let else1 = else2 .before .before in
+    let start = else1 .before .before .before in
     let block = start .args .block .now in
     rw (
-      ne-eqb _ _ (w .before .before .if1 .left),
-      ne-eqb _ _ (w .if2 .left),
-      told (c .before .before .before .sctlr-v .ensures) (c .before .before .if3 .left),
+      told (else1 .before .is .ensures) (else1 .if1 .left),
+      told (else2 .before .is2 .ensures) (else2 .if2 .left),
+      told (else3 .before .sctlr-v .ensures) (else3 .if3 .left),
     )
     (c .get-word3 .ensures
     ∙ ap (word block) (c .before .own-place .ensures .0 ∙ ap (ownPlace VBAR-s) (start .pre .1))
@@ -73,8 +83,10 @@ pub base-of-spec : {M : Type 1} → statement M
 base-of-spec =
     tie.close
     (tie.spec
+    is-requires
     get-word-requires
     returns
+    is-requires-2
     get-word-requires-2
     returns-2
     sctlr-v-requires

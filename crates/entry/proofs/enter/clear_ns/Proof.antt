@@ -4,11 +4,11 @@ use mathlib.Core.List.{List}
 use mathlib.Core.Path.{_≡_, refl, sym, ap, _∙_}
 use Prim.Native.Nat.{ℕ, _*_, _/_}
 use borrow.Author.Needs.{needs}
-use borrow.Author.Tests.{eq-eqb, ne-eqb}
 use native.Mathlib.Omega.{arith}
 use Rattle.entry.proofs.enter.clear_ns.Statement.{statement}
 use Rattle.entry.proofs.enter.clear_ns.Tie as tie
 use Rattle.entry.specs.Enter.{nsCleared}
+use Rattle.state.proofs.Test.{told}
 use Rattle.state.specs.Choice.{if_then_else_, _is_}
 use Rattle.state.specs.Field.{mode-field, without}
 use Rattle.state.specs.Mode.{HYP, MONITOR}
@@ -24,25 +24,28 @@ stays true x y = refl
 stays false x y = refl
 
 module _ (b : List ℕ) (to : ℕ) where
-  to-hyp : to ≡ HYP → b ≡ nsCleared b to
+  to-hyp : (to is HYP) ≡ true → b ≡ nsCleared b to
   unfolding nsCleared
-  to-hyp e = rw (eq-eqb to HYP e) (stays (mode-field (word b CPSR) is MONITOR) (put b SCR (without 0 (word b SCR))) b)
+  to-hyp h = rw h (stays (mode-field (word b CPSR) is MONITOR) (put b SCR (without 0 (word b SCR))) b)
 
   module _ {cpsr : ℕ} {m : Bool} (e : cpsr ≡ word b CPSR) (i : m ≡ (mode-field cpsr is MONITOR)) where
-    told : {t : Bool} → m ≡ t → (mode-field (word b CPSR) is MONITOR) ≡ t
-    told h = cc
+    from-monitor : {t : Bool} → m ≡ t → (mode-field (word b CPSR) is MONITOR) ≡ t
+    from-monitor h = cc
 
-    cleared : {scr : ℕ} {l : List ℕ} → (to ≡ HYP → ⊥) → m ≡ true → scr ≡ word b SCR → l ≡ put b SCR (scr / 2 * 2)
+    cleared : {scr : ℕ} {l : List ℕ} → (to is HYP) ≡ false → m ≡ true → scr ≡ word b SCR → l ≡ put b SCR (scr / 2 * 2)
         → l ≡ nsCleared b to
     unfolding nsCleared
-    cleared {scr} {l} n h s p = rw (told h, ne-eqb to HYP n) (p ∙ ap (put b SCR) (even scr ∙ ap (without 0) s))
+    cleared {scr} {l} n h s p = rw (from-monitor h, n) (p ∙ ap (put b SCR) (even scr ∙ ap (without 0) s))
 
     left : m ≡ false → b ≡ nsCleared b to
     unfolding nsCleared
-    left h = rw (told h)
+    left h = rw (from-monitor h)
+
+is-requires : tie.Need-is-requires
+is-requires c κs = search needs
 
 returns : tie.Need-returns
-returns c = (to-hyp _ _ (c .if1 .taken), c .before .before .before .pre .2)
+returns c = (to-hyp _ _ (told (c .before .is .ensures) (c .if1 .taken)), c .before .before .before .pre .2)
 
 is-monitor-requires : tie.Need-is-monitor-requires
 is-monitor-requires c κs = search needs
@@ -58,12 +61,13 @@ same-length c = search needs
 
 returns-2 : tie.Need-returns-2
 returns-2 c =
-    let w = c .before .before .before .before in
-    let start = w .before .before .before .before .before in
+    let then2 = c .before .before .before .before in
+    let else1 = then2 .before .before in
+    let start = else1 .before .before .before in
     let scr = start .args .scr in
     let put-same = word-put-same (start .args .block .now) SCR (scr / 2 * 2) (omega arith) (omega arith) in (
-      cleared _ _ (start .pre .1) (w .before .is-monitor .ensures) (w .before .before .if1 .left) (w .if2 .taken)
-          (start .pre .2) (c .before .before .put-word .ensures),
+      cleared _ _ (start .pre .1) (then2 .before .is-monitor .ensures) (told (else1 .before .is .ensures) (else1 .if1 .left))
+          (then2 .if2 .taken) (start .pre .2) (c .before .before .put-word .ensures),
       sym (ap (λ (l : List ℕ). word l SCR) (c .before .before .put-word .ensures) ∙ put-same),
     )
 
@@ -76,6 +80,7 @@ pub clear-ns-spec : {M : Type 1} → statement M
 clear-ns-spec =
     tie.close
     (tie.spec
+    is-requires
     returns
     is-monitor-requires
     mul-after

@@ -1,25 +1,33 @@
 -- The place that the definition chooses, by the same tests.
 use mathlib.Core.Path.{ap, _∙_}
 use borrow.Author.Needs.{needs}
-use borrow.Author.Tests.{eq-eqb, ne-eqb}
 use Rattle.entry.proofs.enter.control_of.Statement.{statement}
 use Rattle.entry.proofs.enter.control_of.Tie as tie
 use Rattle.entry.specs.Parts.{ownPlace}
+use Rattle.state.proofs.Test.{told}
 use Rattle.state.specs.Place.{SCTLR-s}
 use Rattle.words.specs.Word.{word}
+
+is-requires : tie.Need-is-requires
+is-requires c κs = search needs
 
 get-word-requires : tie.Need-get-word-requires
 get-word-requires c κs = search needs
 
 returns : tie.Need-returns
-returns c = rw (eq-eqb _ _ (c .before .if1 .taken)) (c .get-word .ensures)
+returns c = rw (told (c .before .before .is .ensures) (c .before .if1 .taken)) (c .get-word .ensures)
+
+is-requires-2 : tie.Need-is-requires-2
+is-requires-2 c κs = search needs
 
 get-word-requires-2 : tie.Need-get-word-requires-2
 get-word-requires-2 c κs = search needs
 
 returns-2 : tie.Need-returns-2
 returns-2 c =
-    rw (ne-eqb _ _ (c .before .before .before .if1 .left), eq-eqb _ _ (c .before .if2 .taken)) (c .get-word2 .ensures)
+    let else1 = c .before .before .before in
+    rw (told (else1 .before .is .ensures) (else1 .if1 .left), told (c .before .before .is2 .ensures) (c .before .if2 .taken))
+    (c .get-word2 .ensures)
 
 own-place-requires : tie.Need-own-place-requires
 own-place-requires c κs = search needs
@@ -29,9 +37,10 @@ get-word-requires-3 c κs = search needs
 
 returns-3 : tie.Need-returns-3
 returns-3 c =
-    let w = c .before .before in
-    let start = w .before .before .before .before .before in
-    rw (ne-eqb _ _ (w .before .before .if1 .left), ne-eqb _ _ (w .if2 .left))
+    let else2 = c .before .before in
+    let else1 = else2 .before .before in
+    let start = else1 .before .before .before in
+    rw (told (else1 .before .is .ensures) (else1 .if1 .left), told (else2 .before .is2 .ensures) (else2 .if2 .left))
     (c .get-word3 .ensures
     ∙ ap (word (start .args .block .now)) (c .before .own-place .ensures .0 ∙ ap (ownPlace SCTLR-s) (start .pre .1)))
 
@@ -39,8 +48,10 @@ pub control-of-spec : {M : Type 1} → statement M
 control-of-spec =
     tie.close
     (tie.spec
+    is-requires
     get-word-requires
     returns
+    is-requires-2
     get-word-requires-2
     returns-2
     own-place-requires

@@ -39,7 +39,7 @@ add-result-4 : tie.Need-add-result-4
 add-result-4 c = search needs
 
 returns : tie.Need-returns
-returns c = whole _ _ _ _ (c .before .masks-after .ensures .0) (c .t-and-e .ensures .0)
+returns c = whole _ _ _ _ (c .before .before .masks-after .ensures .0) (c .before .t-and-e .ensures .0)
 
 pub cpsr-after-spec : {M : Type 1} → statement M
 cpsr-after-spec =

@@ -18,15 +18,17 @@ clear-ns-requires : tie.Need-clear-ns-requires
 clear-ns-requires c κs = search needs
 
 write-entry-requires : tie.Need-write-entry-requires
-write-entry-requires c κs = search needs
+write-entry-requires c κs =
+    let cleared = c .before .before .before in
+    (search needs, cleared .before .before .before .pre .1, cleared .clear-ns .ensures .1)
 
 same-length : tie.Need-same-length
 same-length c = search needs
 
 returns : tie.Need-returns
 returns c =
-    let w = c .before .before .before .before .before .before in
-    whole _ _ _ _ (w .before .before .before .pre .2) (w .clear-ns .ensures .0)
+    let cleared = c .before .before .before .before .before .before in
+    whole _ _ _ _ (cleared .before .before .before .pre .2) (cleared .clear-ns .ensures .0)
     (c .before .before .write-entry .ensures)
 
 pub enter-spec : {M : Type 1} → statement M

@@ -5,20 +5,20 @@ use Rattle.entry.proofs.Masks.{masks-are, masks-small}
 use Rattle.entry.proofs.enter.masks_after.Statement.{statement}
 use Rattle.entry.proofs.enter.masks_after.Tie as tie
 
--- The old mask bits and the new ones, joined.
-
 sets-requires : tie.Need-sets-requires
 sets-requires c κs = search needs
 
 mul-result : tie.Need-mul-result
 mul-result c =
-    let l = masks-small (c .before .args .cpsr) (c .before .args .scr) (c .before .args .to) (c .sets .ensures .0) in
+    let args = c .before .args in
+    let l = masks-small (args .cpsr) (args .scr) (args .to .number) (c .sets .ensures .0) in
     record { fits = omega arith }
 
 returns : tie.Need-returns
 returns c =
-    let l = masks-small (c .before .args .cpsr) (c .before .args .scr) (c .before .args .to) (c .sets .ensures .0) in
-    (masks-are (c .before .args .cpsr) (c .before .args .scr) (c .before .args .to) (c .sets .ensures .0), omega arith)
+    let args = c .before .args in
+    let l = masks-small (args .cpsr) (args .scr) (args .to .number) (c .sets .ensures .0) in
+    (masks-are (args .cpsr) (args .scr) (args .to .number) (c .sets .ensures .0), omega arith)
 
 pub masks-after-spec : {M : Type 1} → statement M
 masks-after-spec = tie.close (tie.spec sets-requires mul-result returns)

@@ -1,39 +1,43 @@
--- Each arm is a row of the table of masks, and the last is no row of it.
+-- Each branch is a row of the table of masks, and the last is no row of it.
 use borrow.Author.Tests.{ne-eqb}
 use lib.Dec.{lit<}
 use Rattle.entry.proofs.enter.own_sets.Statement.{statement}
 use Rattle.entry.proofs.enter.own_sets.Tie as tie
 
 returns : tie.Need-returns
-returns c = (λ n scr. cc, lit< tt)
+returns c = (λ n scr. rw (c .if1 .taken), lit< tt)
 
 returns-2 : tie.Need-returns-2
-returns-2 c = (λ n scr. cc, lit< tt)
+returns-2 c = (λ n scr. rw (c .if2 .taken), lit< tt)
 
 returns-3 : tie.Need-returns-3
-returns-3 c = (λ n scr. cc, lit< tt)
+returns-3 c = (λ n scr. rw (c .if3 .taken), lit< tt)
 
 returns-4 : tie.Need-returns-4
-returns-4 c = (λ n scr. cc, lit< tt)
+returns-4 c = (λ n scr. rw (c .if4 .taken), lit< tt)
 
 returns-5 : tie.Need-returns-5
-returns-5 c = (λ n scr. cc, lit< tt)
+returns-5 c = (λ n scr. rw (c .if5 .taken), lit< tt)
 
 returns-6 : tie.Need-returns-6
-returns-6 c = (λ n scr. cc, lit< tt)
+returns-6 c = (λ n scr. rw (c .if6 .taken), lit< tt)
 
 returns-7 : tie.Need-returns-7
 returns-7 c =
-    let k = c .match .rest in (
+    let else5 = c .before .before in
+    let else4 = else5 .before .before in
+    let else3 = else4 .before .before in
+    let else2 = else3 .before .before in
+    let else1 = else2 .before .before in (
       λ n scr.
           simp (
-            ne-eqb _ _ n,
-            ne-eqb _ _ (k .1),
-            ne-eqb _ _ (k .0 .1),
-            ne-eqb _ _ (k .0 .0 .1),
-            ne-eqb _ _ (k .0 .0 .0 .1),
-            ne-eqb _ _ (k .0 .0 .0 .0 .1),
-            ne-eqb _ _ (k .0 .0 .0 .0 .0 .1),
+            n,
+            ne-eqb _ _ (c .if6 .left),
+            ne-eqb _ _ (else5 .if5 .left),
+            ne-eqb _ _ (else4 .if4 .left),
+            ne-eqb _ _ (else3 .if3 .left),
+            ne-eqb _ _ (else2 .if2 .left),
+            ne-eqb _ _ (else1 .if1 .left),
           ),
       lit< tt,
     )

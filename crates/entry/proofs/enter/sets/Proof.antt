@@ -2,9 +2,15 @@
 use mathlib.Core.Path.{_∙_, ap, sym}
 use Prim.Native.Nat.{ℕ}
 use borrow.Author.Needs.{needs}
+use borrow.Author.Tests.{eqb-true}
 use Rattle.entry.proofs.enter.sets.Statement.{statement}
 use Rattle.entry.proofs.enter.sets.Tie as tie
 use Rattle.entry.specs.Parts.{setsNumber}
+use Rattle.state.proofs.Test.{told}
+use Rattle.state.specs.Mode.{HYP}
+
+is-requires : tie.Need-is-requires
+is-requires c κs = search needs
 
 hyp-sets-requires : tie.Need-hyp-sets-requires
 hyp-sets-requires c κs = search needs
@@ -13,10 +19,17 @@ own-sets-requires : tie.Need-own-sets-requires
 own-sets-requires c κs = search needs
 
 returns : tie.Need-returns
-returns c = (c .hyp-sets .ensures .0 ∙ ap (λ (m : ℕ). setsNumber m (c .before .before .before .args .scr)) (sym (c .before .if1 .taken)), c .hyp-sets .ensures .1)
+returns c =
+    let after-is = c .before .before in
+    let args = after-is .before .args in
+    let is-hyp = eqb-true (args .to .number) HYP (told (after-is .is .ensures) (c .before .if1 .taken)) in
+    (c .hyp-sets .ensures .0 ∙ ap (λ (m : ℕ). setsNumber m (args .scr)) (sym is-hyp), c .hyp-sets .ensures .1)
 
 returns-2 : tie.Need-returns-2
-returns-2 c = (c .own-sets .ensures .0 (c .before .if1 .left) (c .before .before .before .args .scr), c .own-sets .ensures .1)
+returns-2 c =
+    let after-is = c .before .before in
+    let not-hyp = told (after-is .is .ensures) (c .before .if1 .left) in
+    (c .own-sets .ensures .0 not-hyp (after-is .before .args .scr), c .own-sets .ensures .1)
 
 pub sets-spec : {M : Type 1} → statement M
-sets-spec = tie.close (tie.spec hyp-sets-requires own-sets-requires returns returns-2)
+sets-spec = tie.close (tie.spec is-requires hyp-sets-requires own-sets-requires returns returns-2)

@@ -48,7 +48,7 @@ spsr-place-requires c κs = search needs
 put-word-requires : tie.Need-put-word-requires
 put-word-requires c κs =
     let start = c .before .before .before .before .before .before .before .before in
-    let p = spsr-inside (start .args .to) (start .pre .1) in
+    let p = spsr-inside (start .args .to .number) (start .pre .1) in
     let e = c .spsr-place .ensures in
     omega arith
 
@@ -59,7 +59,7 @@ put-word-requires-2 : tie.Need-put-word-requires-2
 put-word-requires-2 c κs =
     let w = c .before .before .before .before .before in
     let start = w .before .before .before .before .before .before .before .before in
-    let p = lr-inside (start .args .to) (start .pre .1) in
+    let p = lr-inside (start .args .to .number) (start .pre .1) in
     let e = c .lr-place .ensures in
     omega arith
 

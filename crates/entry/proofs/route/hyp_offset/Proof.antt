@@ -18,10 +18,14 @@ is-hyp-requires : tie.Need-is-hyp-requires
 is-hyp-requires c κs = search needs
 
 returns : tie.Need-returns
-returns c = by-test (mode-field (c .before .before .args .cpsr)) (c .before .before .args .own) (c .before .is-hyp .ensures) (c .if1 .taken)
+returns c =
+    let args = c .before .before .args in
+    by-test (mode-field (args .cpsr)) (args .own) (c .before .is-hyp .ensures) (c .if1 .taken)
 
 returns-2 : tie.Need-returns-2
-returns-2 c = by-test (mode-field (c .before .before .args .cpsr)) (c .before .before .args .own) (c .before .is-hyp .ensures) (c .if1 .left)
+returns-2 c =
+    let args = c .before .before .args in
+    by-test (mode-field (args .cpsr)) (args .own) (c .before .is-hyp .ensures) (c .if1 .left)
 
 pub hyp-offset-spec : {M : Type 1} → statement M
 hyp-offset-spec = tie.close (tie.spec is-hyp-requires returns returns-2)

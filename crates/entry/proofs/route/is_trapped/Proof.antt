@@ -34,22 +34,27 @@ scr-ns-requires c κs = search needs
 
 returns : tie.Need-returns
 returns c =
-    not-ns (c .before .before .args .cpsr) (c .before .before .args .scr) (c .before .before .args .hcr) (told-not (c .before .scr-ns .ensures) (c .if1 .taken))
+    let args = c .before .before .args in
+    not-ns (args .cpsr) (args .scr) (args .hcr) (told-not (c .before .scr-ns .ensures) (c .if1 .taken))
 
 hcr-tsc-requires : tie.Need-hcr-tsc-requires
 hcr-tsc-requires c κs = search needs
 
 returns-2 : tie.Need-returns-2
 returns-2 c =
-    not-tsc (c .before .before .before .before .args .cpsr) (c .before .before .before .before .args .scr) (c .before .before .before .before .args .hcr) (told-not (c .before .hcr-tsc .ensures) (c .if2 .taken))
+    let args = c .before .before .before .before .args in
+    not-tsc (args .cpsr) (args .scr) (args .hcr) (told-not (c .before .hcr-tsc .ensures) (c .if2 .taken))
 
 is-el1-requires : tie.Need-is-el1-requires
 is-el1-requires c κs = search needs
 
 returns-3 : tie.Need-returns-3
 returns-3 c =
-    by-mode (c .before .before .before .before .before .args .cpsr) (c .before .before .before .before .before .args .scr) (c .before .before .before .before .before .args .hcr) (told-still (c .before .before .before .before .scr-ns .ensures) (c .before .before .before .if1 .left))
-    (told-still (c .before .before .hcr-tsc .ensures) (c .before .if2 .left)) (c .is-el1 .ensures)
+    let else2 = c .before in
+    let else1 = else2 .before .before in
+    let args = else1 .before .before .args in
+    by-mode (args .cpsr) (args .scr) (args .hcr) (told-still (else1 .before .scr-ns .ensures) (else1 .if1 .left))
+    (told-still (else2 .before .hcr-tsc .ensures) (else2 .if2 .left)) (c .is-el1 .ensures)
 
 pub is-trapped-spec : {M : Type 1} → statement M
 is-trapped-spec =

@@ -30,21 +30,29 @@ is-stage2-requires c κs = search needs
 
 returns : tie.Need-returns
 returns c =
-    no-stage2 (c .before .before .args .a) (c .before .before .args .cpsr) (c .before .before .args .scr) (told-not (c .before .is-stage2 .ensures) (c .if1 .taken))
+    let args = c .before .before .args in
+    no-stage2 (args .a) (args .cpsr) (args .scr) (told-not (c .before .is-stage2 .ensures) (c .if1 .taken))
 
 is-secure-requires : tie.Need-is-secure-requires
 is-secure-requires c κs = search needs
 
 returns-2 : tie.Need-returns-2
 returns-2 c =
-    in-secure (c .before .before .before .before .args .a) (c .before .before .before .before .args .cpsr) (c .before .before .before .before .args .scr) (told-still (c .before .before .before .is-stage2 .ensures) (c .before .before .if1 .left)) (told (c .before .is-secure .ensures) (c .if2 .taken))
+    let else1 = c .before .before in
+    let args = else1 .before .before .args in
+    in-secure (args .a) (args .cpsr) (args .scr) (told-still (else1 .before .is-stage2 .ensures) (else1 .if1 .left))
+    (told (c .before .is-secure .ensures) (c .if2 .taken))
 
 is-hyp-requires : tie.Need-is-hyp-requires
 is-hyp-requires c κs = search needs
 
 returns-3 : tie.Need-returns-3
 returns-3 c =
-    by-mode (c .before .before .before .before .before .args .a) (c .before .before .before .before .before .args .cpsr) (c .before .before .before .before .before .args .scr) (told-still (c .before .before .before .before .is-stage2 .ensures) (c .before .before .before .if1 .left)) (told (c .before .before .is-secure .ensures) (c .before .if2 .left)) (c .is-hyp .ensures)
+    let else2 = c .before in
+    let else1 = else2 .before .before in
+    let args = else1 .before .before .args in
+    by-mode (args .a) (args .cpsr) (args .scr) (told-still (else1 .before .is-stage2 .ensures) (else1 .if1 .left))
+    (told (else2 .before .is-secure .ensures) (else2 .if2 .left)) (c .is-hyp .ensures)
 
 pub lacks-stage2-spec : {M : Type 1} → statement M
 lacks-stage2-spec =

@@ -1,7 +1,9 @@
--- The definition's tests, at this kind.
+-- The tests of this kind.
 use borrow.Author.Needs.{needs}
+use Rattle.interrupts.proofs.Laws.{physical-tests}
 use Rattle.interrupts.proofs.takeable.takes_fiq.Statement.{statement}
 use Rattle.interrupts.proofs.takeable.takes_fiq.Tie as tie
+use Rattle.interrupts.specs.Kind.{fiq}
 use Rattle.interrupts.specs.Takeable.{takeable, pending, masked}
 
 cpsr-f-requires : tie.Need-cpsr-f-requires
@@ -27,7 +29,16 @@ takes-requires c κs = search needs
 
 returns : tie.Need-returns
 unfolding takeable pending masked
-returns c = cc
+returns c =
+    let w = c .before in
+    let r = w .before in
+    let m = r .before in
+    let hyp = m .before in
+    let sec = hyp .before in
+    let mask = sec .before in
+    let a = mask .before .args in
+    physical-tests fiq (a .lines) (a .cpsr) (a .scr) (a .hcr) (mask .cpsr-f .ensures) (sec .is-secure .ensures)
+    (hyp .is-hyp .ensures) (m .hcr-fmo .ensures) (r .scr-fiq .ensures) (w .scr-fw .ensures) (c .takes .ensures)
 
 pub takes-fiq-spec : {M : Type 1} → statement M
 takes-fiq-spec =

@@ -1,7 +1,9 @@
--- The definition's tests, at this kind.
+-- The tests of this kind.
 use borrow.Author.Needs.{needs}
+use Rattle.interrupts.proofs.Laws.{physical-tests}
 use Rattle.interrupts.proofs.takeable.takes_serror.Statement.{statement}
 use Rattle.interrupts.proofs.takeable.takes_serror.Tie as tie
+use Rattle.interrupts.specs.Kind.{serror}
 use Rattle.interrupts.specs.Takeable.{takeable, pending, masked}
 
 cpsr-a-requires : tie.Need-cpsr-a-requires
@@ -27,7 +29,16 @@ takes-requires c κs = search needs
 
 returns : tie.Need-returns
 unfolding takeable pending masked
-returns c = cc
+returns c =
+    let w = c .before in
+    let r = w .before in
+    let m = r .before in
+    let hyp = m .before in
+    let sec = hyp .before in
+    let mask = sec .before in
+    let a = mask .before .args in
+    physical-tests serror (a .lines) (a .cpsr) (a .scr) (a .hcr) (mask .cpsr-a .ensures) (sec .is-secure .ensures)
+    (hyp .is-hyp .ensures) (m .hcr-amo .ensures) (r .scr-ea .ensures) (w .scr-aw .ensures) (c .takes .ensures)
 
 pub takes-serror-spec : {M : Type 1} → statement M
 takes-serror-spec =

@@ -1,31 +1,42 @@
 -- A wrong size leaves both buffers; else the event is performed.
+use mathlib.Core.Path.{_≡_}
+use lib.ListN.{length}
+use Rattle.state.specs.Place.{BLOCK-SIZE}
+use Rattle.rules.specs.Step.{ANSWER-SIZE}
 use Rattle.machine.proofs.Replay.{replayed}
 use Rattle.machine.proofs.Stepping.{performed, wrong-block, wrong-buffer, right-sizes}
 use Rattle.machine.proofs.step.replay.Statement.{statement}
 use Rattle.machine.proofs.step.replay.Tie as tie
 use borrow.Author.Needs.{needs}
 
-returns : tie.Need-returns
-returns c = replayed _ _ _ (wrong-block _ _ _ (c .if1 .taken)) (λ s z. absurd (c .if1 .taken s))
+-- both sizes, seen from behind the two tests
+block-size : (c : tie.Else2) → length (c .before .before .before .before .args .block .now) ≡ BLOCK-SIZE
+block-size c = c .before .if1 .left
 
-returns-2 : tie.Need-returns-2
-returns-2 c =
+buffer-size : (c : tie.Else2) → length (c .before .before .before .before .args .buffer .now) ≡ ANSWER-SIZE
+buffer-size c = c .if2 .left
+
+wrong-first : tie.Need-returns
+wrong-first c = replayed _ _ _ (wrong-block _ _ _ (c .if1 .taken)) (λ s z. absurd (c .if1 .taken s))
+
+wrong-second : tie.Need-returns-2
+wrong-second c =
     replayed _ _ _ (wrong-buffer _ _ _ (c .before .if1 .left) (c .if2 .taken)) (λ s z. absurd (c .if2 .taken z))
 
-replay-sized-requires : tie.Need-replay-sized-requires
-replay-sized-requires c κs = search needs
-
-same-length : tie.Need-same-length
-same-length c = search needs
-
-same-length-2 : tie.Need-same-length-2
-same-length-2 c = search needs
-
-returns-3 : tie.Need-returns-3
-returns-3 c =
-    let done = performed _ _ (c .before .before .before .before .replay-sized .ensures) in
-    replayed _ _ _ (right-sizes _ _ _ (c .before .before .before .before .before .before .before .before .if1 .left) (c .before .before .before .before .before .before .before .if2 .left) done) (λ s z. done .1 .1 .1)
+done : tie.Need-returns-3
+done c =
+    let at = c .before .before .before .before in
+    let tested = at .before .before .before in
+    let p = performed _ _ (at .replay-sized .ensures) in
+    replayed _ _ _ (right-sizes _ _ _ (block-size tested) (buffer-size tested) p) (λ s z. p .1 .1 .1)
 
 pub replay-spec : {M : Type 1} → statement M
 replay-spec =
-    tie.close (tie.spec returns returns-2 replay-sized-requires same-length same-length-2 returns-3)
+    tie.close
+    (tie.spec
+    wrong-first
+    wrong-second
+    (λ c κs. (block-size (c .before .before), buffer-size (c .before .before)))
+    (λ c. search needs)
+    (λ c. search needs)
+    done)

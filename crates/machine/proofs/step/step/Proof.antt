@@ -1,27 +1,39 @@
 -- A wrong size leaves both buffers; else the event is performed.
+use mathlib.Core.Path.{_≡_}
+use lib.ListN.{length}
+use Rattle.state.specs.Place.{BLOCK-SIZE}
+use Rattle.rules.specs.Step.{ANSWER-SIZE}
 use Rattle.machine.proofs.Stepping.{performed, wrong-block, wrong-buffer, right-sizes}
 use Rattle.machine.proofs.step.step.Statement.{statement}
 use Rattle.machine.proofs.step.step.Tie as tie
 use borrow.Author.Needs.{needs}
 
-returns : tie.Need-returns
-returns c = wrong-block _ _ _ (c .if1 .taken)
+-- both sizes, seen from behind the two tests
+block-size : (c : tie.Else2) → length (c .before .before .before .before .args .block .now) ≡ BLOCK-SIZE
+block-size c = c .before .if1 .left
 
-returns-2 : tie.Need-returns-2
-returns-2 c = wrong-buffer _ _ _ (c .before .if1 .left) (c .if2 .taken)
+buffer-size : (c : tie.Else2) → length (c .before .before .before .before .args .buffer .now) ≡ ANSWER-SIZE
+buffer-size c = c .if2 .left
 
-step-sized-requires : tie.Need-step-sized-requires
-step-sized-requires c κs = search needs
+wrong-first : tie.Need-returns
+wrong-first c = wrong-block _ _ _ (c .if1 .taken)
 
-same-length : tie.Need-same-length
-same-length c = search needs
+wrong-second : tie.Need-returns-2
+wrong-second c = wrong-buffer _ _ _ (c .before .if1 .left) (c .if2 .taken)
 
-same-length-2 : tie.Need-same-length-2
-same-length-2 c = search needs
-
-returns-3 : tie.Need-returns-3
-returns-3 c = right-sizes _ _ _ (c .before .before .before .before .before .before .before .before .if1 .left) (c .before .before .before .before .before .before .before .if2 .left) (performed _ _ (c .before .before .before .before .step-sized .ensures))
+done : tie.Need-returns-3
+done c =
+    let at = c .before .before .before .before in
+    let tested = at .before .before .before in
+    right-sizes _ _ _ (block-size tested) (buffer-size tested) (performed _ _ (at .step-sized .ensures))
 
 pub step-spec : {M : Type 1} → statement M
 step-spec =
-    tie.close (tie.spec returns returns-2 step-sized-requires same-length same-length-2 returns-3)
+    tie.close
+    (tie.spec
+    wrong-first
+    wrong-second
+    (λ c κs. (block-size (c .before .before), buffer-size (c .before .before)))
+    (λ c. search needs)
+    (λ c. search needs)
+    done)

@@ -16,18 +16,18 @@ hcr-tge-requires c κs = search needs
 returns : tie.Need-returns
 unfolding known el1
 returns c =
-    bad-modes 0xFBBEFFFF (told (c .before .before .before .scr-ns .ensures) (c .before .before .if1 .taken))
+    bad-modes _ (told (c .before .before .before .scr-ns .ensures) (c .before .before .if1 .taken))
     (told (c .before .hcr-tge .ensures) (c .if2 .taken)) refl
 
 returns-2 : tie.Need-returns-2
 unfolding known el1
 returns-2 c =
-    bad-modes 0x7330FFFF (told (c .before .before .before .scr-ns .ensures) (c .before .before .if1 .taken))
+    bad-modes _ (told (c .before .before .before .scr-ns .ensures) (c .before .before .if1 .taken))
     (told (c .before .hcr-tge .ensures) (c .if2 .left)) refl
 
 returns-3 : tie.Need-returns-3
 unfolding known el1
-returns-3 c = bad-modes 0x7730FFFF (told (c .before .scr-ns .ensures) (c .if1 .left)) refl refl
+returns-3 c = bad-modes _ (told (c .before .scr-ns .ensures) (c .if1 .left)) refl refl
 
 pub bad-modes-spec : {M : Type 1} → statement M
 bad-modes-spec = tie.close (tie.spec scr-ns-requires hcr-tge-requires returns returns-2 returns-3)

@@ -1,9 +1,7 @@
 -- The mode's own answer, at the number that CPSR names.
-use mathlib.Core.Path.{_∙_, ap}
 use borrow.Author.Needs.{needs}
 use Rattle.state.proofs.state.is_el1.Statement.{statement}
 use Rattle.state.proofs.state.is_el1.Tie as tie
-use Rattle.state.specs.Mode.{el1}
 
 of-requires : tie.Need-of-requires
 of-requires c κs = search needs
@@ -12,7 +10,7 @@ is-el1-requires : tie.Need-is-el1-requires
 is-el1-requires c κs = search needs
 
 returns : tie.Need-returns
-returns c = c .is-el1 .ensures ∙ ap el1 (c .before .of .ensures)
+returns c = cc
 
 pub is-el1-spec : {M : Type 1} → statement M
 is-el1-spec = tie.close (tie.spec of-requires is-el1-requires returns)

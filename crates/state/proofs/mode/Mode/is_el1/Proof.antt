@@ -11,7 +11,7 @@ shr-result c = search needs
 
 returns : tie.Need-returns
 unfolding el1
-returns c = in-set 2291007488 el1-modes refl _ (c .if1 .taken)
+returns c = in-set _ el1-modes refl _ (c .if1 .taken)
 
 returns-2 : tie.Need-returns-2
 unfolding el1

@@ -11,7 +11,7 @@ shr-result c = search needs
 
 returns : tie.Need-returns
 unfolding guest
-returns c = in-set 2291073024 guest-modes refl _ (c .if1 .taken)
+returns c = in-set _ guest-modes refl _ (c .if1 .taken)
 
 returns-2 : tie.Need-returns-2
 unfolding guest

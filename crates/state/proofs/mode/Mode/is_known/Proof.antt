@@ -11,7 +11,7 @@ shr-result c = search needs
 
 returns : tie.Need-returns
 unfolding known
-returns c = in-set 2362376192 modes refl _ (c .if1 .taken)
+returns c = in-set _ modes refl _ (c .if1 .taken)
 
 returns-2 : tie.Need-returns-2
 unfolding known

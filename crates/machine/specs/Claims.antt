@@ -1,0 +1,112 @@
+-- Words for what the theorems say of a step: the first row that applies, what can be taken at an interrupt check and which is
+-- taken, what an entry leaves of SCR and HCR, and what it is to be a step.
+use mathlib.Core.Path.{_≡_}
+use mathlib.Core.Bool.{Bool, true, false, not, _&&_}
+use mathlib.Core.Logic.{_⊎_}
+use mathlib.Core.List.{List, [], _∷_}
+use Prim.Native.Nat.{ℕ, _<_, _^_}
+use Rattle.words.specs.Word.{word, Bytes}
+use Rattle.state.specs.Choice.{if_then_else_, _is_, Row}
+use Rattle.state.specs.Field.{without, mode-field}
+use Rattle.state.specs.Mode.{MONITOR, HYP}
+use Rattle.state.specs.Number.{DONE, BAD-SIZE}
+use Rattle.state.specs.Place.{CPSR, PC, SCR, HCR}
+use Rattle.entry.specs.Enter.{entered}
+use Rattle.entry.specs.Way.{Enter}
+use Rattle.interrupts.specs.Check as interrupt
+use Rattle.interrupts.specs.Takeable.{pending, masked}
+use Rattle.interrupts.specs.declared.exception.Exception.{Exception}
+use Rattle.interrupts.specs.declared.exception.Exception.the-variants.{Synchronous, SError, Fiq, Irq, VirtualSError, VirtualFiq, VirtualIrq}
+use Rattle.rules.specs.Refusal.{rows}
+use Rattle.rules.specs.Step.{vaCleared, answer, after, sized, numberReturned, blockLeft, answerLeft}
+use Rattle.rules.specs.Verdict.{entryTo, answerFor}
+use Rattle.rules.specs.declared.event.Event.{Event}
+
+-- ---- the answer numbers: "The lowest number that applies wins"
+
+-- n is the number of the first row that applies; where none does it is DONE
+pub data FirstRow : List Row → ℕ → Type 0 where
+  none : FirstRow [] DONE
+  here : {r : Row} {rs : List Row} → r .applies ≡ true → FirstRow (r ∷ rs) (r .number)
+  later : {r : Row} {rs : List Row} {n : ℕ} → r .applies ≡ false → FirstRow rs n → FirstRow (r ∷ rs) n
+
+-- the rows of a step over an answer buffer, row 1 being whole: "block not 176 bytes, or answer buffer not 8"
+abbrev pub rowsLent : List ℕ → Event → List ℕ → List Row
+rowsLent b e buffer = record { applies = not (sized b buffer); number = BAD-SIZE } ∷ rows b e
+
+-- ---- the interrupt check: "takes an exception exactly when one is pending .. and not masked under its routing"
+
+-- of these exceptions one is so; and x is the first that is
+abbrev pub OneOf : (Exception → Type 0) → List Exception → Type 0
+OneOf P [] = ⊥
+OneOf P (x ∷ xs) = P x ⊎ OneOf P xs
+
+pub data TheFirst (P : Exception → Type 0) : List Exception → Exception → Type 0 where
+  this : {x : Exception} {xs : List Exception} → P x → TheFirst P (x ∷ xs) x
+  another : {x y : Exception} {xs : List Exception} → (P y → ⊥) → TheFirst P xs x → TheFirst P (y ∷ xs) x
+
+module _ (b : List ℕ) (e : Event) where
+  -- x is pending, by the lines that the event names, and not masked under its routing
+  pub record CanBeTaken (x : Exception) : Type 0 where
+    pub is-pending : pending x (e .a) (word b CPSR) (word b SCR) (word b HCR) ≡ true
+    pub not-masked : masked x (word b CPSR) (word b SCR) (word b HCR) ≡ false
+
+  -- answer and block are those of the entry that x's routing leads to
+  pub record EntersBy (x : Exception) : Type 0 where
+    pub to : ℕ
+    pub offset : ℕ
+    pub link : ℕ
+    pub routing : interrupt.way x (word b CPSR) (word b SCR) (word b HCR) (word b PC) ≡ Enter to offset link
+    pub answers : answer b e ≡ answerFor (entryTo x to offset)
+    pub leaves : after b e ≡ entered (vaCleared b x) to offset link
+
+  -- an exception is taken
+  pub record Takes : Type 0 where
+    pub exception : Exception
+    pub entry : EntersBy exception
+
+  -- nothing is taken: DONE, the value 0, and every byte as it was
+  pub record TakesNothing : Type 0 where
+    pub number : answer b e .number ≡ DONE
+    pub value : answer b e .value ≡ 0
+    pub leaves : after b e ≡ b
+
+-- ---- what an entry leaves
+
+-- "An entry from Monitor to a mode other than Hyp, Monitor included, clears SCR.NS": else SCR is as it was
+abbrev pub scrLeft : List ℕ → ℕ → ℕ
+scrLeft b to =
+    if mode-field (word b CPSR) is MONITOR && not (to is HYP) then without 0 (word b SCR) else
+    word b SCR
+
+-- "Taking virtual SError clears HCR.VA": else HCR is as it was
+abbrev pub hcrLeft : List ℕ → Exception → ℕ
+hcrLeft b Synchronous = word b HCR
+hcrLeft b SError = word b HCR
+hcrLeft b Fiq = word b HCR
+hcrLeft b Irq = word b HCR
+hcrLeft b VirtualSError = without 8 (word b HCR)
+hcrLeft b VirtualFiq = word b HCR
+hcrLeft b VirtualIrq = word b HCR
+
+-- ---- what it is to be a step
+
+-- a function of a block, an event and an answer buffer: the number returned, the block after and the buffer after
+pub record Stepper : Type 0 where
+  pub number : List ℕ → Event → List ℕ → ℕ
+  pub block : List ℕ → Event → List ℕ → List ℕ
+  pub buffer : List ℕ → Event → List ℕ → List ℕ
+
+-- what a caller can give: bytes in both buffers, and three words
+pub record Given (b : List ℕ) (e : Event) (buffer : List ℕ) : Type 0 where
+  pub block-bytes : Bytes b
+  pub buffer-bytes : Bytes buffer
+  pub code-fits : e .code < 2 ^ 32
+  pub a-fits : e .a < 2 ^ 32
+  pub b-fits : e .b < 2 ^ 32
+
+-- what the contract of the step asks of such a function
+pub record Meets (f : Stepper) : Type 0 where
+  pub returns : (b : List ℕ) (e : Event) (m : List ℕ) → Given b e m → f .number b e m ≡ numberReturned b e m
+  pub leaves : (b : List ℕ) (e : Event) (m : List ℕ) → Given b e m → f .block b e m ≡ blockLeft b e m
+  pub answers : (b : List ℕ) (e : Event) (m : List ℕ) → Given b e m → f .buffer b e m ≡ answerLeft b e m

@@ -1,0 +1,5 @@
+pub mod Buffer
+pub mod Rows
+pub mod Sound
+pub mod Carrying
+pub mod Deciding

@@ -1,0 +1,42 @@
+-- The offset that was found is Hyp's.
+use mathlib.Core.Path.{_≡_, refl, ap}
+use Prim.Native.Nat.{ℕ, _<_}
+use borrow.Author.Needs.{needs}
+use Rattle.entry.proofs.Targets.{listed, offset-to-small}
+use Rattle.entry.specs.Route.{offsetTo}
+use Rattle.interrupts.specs.declared.exception.Exception.{Exception}
+use Rattle.rules.proofs.Carrying.{same-action}
+use Rattle.rules.proofs.taking.take_to_hyp.Statement.{statement}
+use Rattle.rules.proofs.taking.take_to_hyp.Tie as tie
+use Rattle.rules.specs.Step.{Action, Take}
+use Rattle.state.specs.Field.{mode-field}
+use Rattle.state.specs.Mode.{HYP}
+
+small : (from own : ℕ) {o : ℕ} → o ≡ offsetTo HYP from own → own < 32 → o < 32
+small from own e h = rw e (offset-to-small HYP from own h)
+
+same-offset : (x : Exception) (link : ℕ) {o p : ℕ} → o ≡ p → Take x HYP o link ≡ Take x HYP p link
+same-offset x link e = ap (λ (n : ℕ). Take x HYP n link) e
+
+hyp-offset-requires : tie.Need-hyp-offset-requires
+hyp-offset-requires c κs = search needs
+
+take-requires : tie.Need-take-requires
+take-requires c κs =
+    let p = c .before .before .before .before .before .pre in
+    (p .0, listed HYP refl, small (mode-field (c .before .before .before .before .before .args .cpsr)) _ (c .before .before .hyp-offset .ensures) (p .1))
+
+same-length : tie.Need-same-length
+same-length c = search needs
+
+same-length-2 : tie.Need-same-length-2
+same-length-2 c = search needs
+
+returns : tie.Need-returns
+returns c =
+    same-action _ (same-offset _ _ (c .before .before .before .before .before .before .before .hyp-offset .ensures))
+    (c .before .before .before .before .take .ensures)
+
+pub take-to-hyp-spec : {M : Type 1} → statement M
+take-to-hyp-spec =
+    tie.close (tie.spec hyp-offset-requires take-requires same-length same-length-2 returns)

@@ -1,0 +1,6 @@
+pub mod Event
+pub mod Verdict
+pub mod Action
+pub mod Refusal
+pub mod Step
+pub mod Parts

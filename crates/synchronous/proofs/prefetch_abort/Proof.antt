@@ -1,0 +1,50 @@
+-- The operands, and then the abort by its own offset.
+use lib.Dec.{lit<}
+use mathlib.Core.Bool.{Bool, false}
+use mathlib.Core.Path.{_≡_, refl}
+use Rattle.entry.proofs.Ways.{prefetch-abort}
+use Rattle.entry.specs.Code.{PREFETCH-ABORT}
+use Rattle.synchronous.proofs.Routing.{Asked, in-range, nothing, unread, beyond-range, on-its-way}
+use Rattle.synchronous.proofs.prefetch_abort.Statement.{statement}
+use Rattle.synchronous.proofs.prefetch_abort.Tie as tie
+
+-- what was handed over, seen from where the operands are judged
+abbrev start : tie.After-beyond → tie.Start
+start c = c .before .before .before
+
+here : (c : tie.Else1)
+    → let x = start (c .before) .args in Asked PREFETCH-ABORT (x .block .now) (x .buffer .now) (x .cpsr) (x .scr) (x .a) (x .b)
+here c = in-range refl (start (c .before) .pre) (c .before .beyond .ensures) (c .if1 .left)
+
+-- the place of the last call, seen from the return
+abbrev aborted : tie.After-slice-known5 → tie.After-abort
+aborted c = c .before .before .before .before
+
+returns : tie.Need-returns
+returns c =
+    let at = c .before .before in
+    let beyond = at .before .before in
+    let pre = start (beyond .before) .pre in
+    beyond-range PREFETCH-ABORT refl _ _ _ (pre .0 .0) (pre .1) (beyond .before .beyond .ensures) (beyond .if1 .taken) (at .refuse .ensures)
+
+abort-requires : tie.Need-abort-requires
+abort-requires c κs = (here (c .before .before) .lent, lit< tt)
+
+returns-2 : tie.Need-returns-2
+returns-2 c =
+    let at = aborted c .before .before .before in
+    let words = unread _ (λ i. at .before .before .before .slice-known .given i .fits) in
+    on-its-way (here at) words (prefetch-abort _ _ _ _ _ (words .fits)) (aborted c .abort .ensures)
+
+pub prefetch-abort-spec : {M : Type 1} → statement M
+prefetch-abort-spec =
+    tie.close
+    (tie.spec
+    nothing
+    (λ c κs. start (c .before .before) .pre .0 .1)
+    (λ c. c .before .before .refuse .kept .0)
+    returns
+    abort-requires
+    (λ c. aborted c .abort .kept .0)
+    (λ c. aborted c .abort .kept .1 .1 .1 .1 .1 .0)
+    returns-2)

@@ -1,0 +1,72 @@
+"""The sentences of a page of `console --html`: what each of its elements may say, line by line, as patterns."""
+
+REGISTERS = ('R8_usr R9_usr R10_usr R11_usr R12_usr SP_usr LR_usr R8_fiq R9_fiq R10_fiq R11_fiq R12_fiq SP_fiq LR_fiq '
+             'LR_irq SP_irq LR_svc SP_svc LR_abt SP_abt LR_und SP_und LR_mon SP_mon ELR_hyp SP_hyp SPSR_fiq SPSR_irq '
+             'SPSR_svc SPSR_abt SPSR_und SPSR_mon SPSR_hyp CPSR PC SCR HCR SCTLR_s SCTLR_ns HSCTLR VBAR_s VBAR_ns '
+             'HVBAR MVBAR').split()
+
+
+def any_of(*patterns):
+    return f'({"|".join(patterns)})'
+
+
+# The parts of sentences: numbers, names, and what is told of a Step.
+NUMBER, COUNT, BYTE, WORD = '[0-9]+', '[0-9]{1,3}(,[0-9]{3})*', '0x[0-9A-F]{2}', '0x[0-9A-F]{8}'
+ANSWER = f'{NUMBER} ' + any_of(*'DONE BAD_SIZE BAD_MODE BAD_STATE BAD_EVENT NOT_HERE NO_REGISTER NO_RIGHT SHORT BAD_RECORD '
+                               'BAD_COUNT WRONG_STEP TRAILING UNKNOWN'.split())
+REGISTER = any_of(*REGISTERS)
+RECORD = any_of('the Start', 'a Step', 'the End')
+MODE = any_of('User', 'FIQ', 'IRQ', 'Supervisor', 'Monitor', 'Abort', 'Hyp', 'Undefined', 'System')
+LINE = any_of('SError', 'FIQ', 'IRQ', 'virtual FIQ', 'virtual IRQ')
+EVENT = any_of('Undefined Instruction', 'SVC', 'SMC', 'HVC', 'Hyp Trap', 'Monitor Trap',
+               '(external )?(Prefetch|Data) Abort( of stage 2)?',
+               'interrupt check', 'interrupt check, no line', f'interrupt check, lines {LINE}( and {LINE})*',
+               f'banked (read|write of {WORD}), R {NUMBER} SYSm {BYTE}',
+               f'note: {REGISTER} becomes {WORD}', f'note on place {NUMBER}, which is none',
+               f'event of code {NUMBER}, which is none')
+STATE = (any_of(f'(Secure|Non-secure) {MODE}', 'Monitor with NS [01]', f'mode {BYTE}, which is none') +
+         any_of(', nothing masked', ', masked A( I)?( F)?', ', masked I( F)?', ', masked F'))
+OUTCOME = any_of(f'refused with {ANSWER}', f'reads {WORD}', 'written', 'takes nothing',
+                 f'((virtual )?(SError|FIQ|IRQ): )?enters ({MODE}|no) mode at {BYTE}')
+
+# The sentences, by element.
+SAID = {
+    'h1': f': (accepted, {NUMBER} Steps|refused {ANSWER} at byte {NUMBER} after {NUMBER} Steps)',
+    'pre': any_of(
+        f'{RECORD} of {NUMBER} bytes was due; only {NUMBER} are there',
+        f'{RECORD} was due, of length {NUMBER} and kind {NUMBER}; length {NUMBER} and kind {NUMBER} are there',
+        f'the Start counts {NUMBER} Steps; there may be {NUMBER}',
+        f'the Start counts {NUMBER} Steps, the End {NUMBER}',
+        'the trace was whole, and more bytes follow its End',
+        f'Step {NUMBER} at byte {NUMBER}: {EVENT}',
+        f'it was in {STATE}',
+        f'the rules give: {OUTCOME}',
+        f'(answer number|answer value|{REGISTER}) {WORD} due, {WORD} found'),
+    'p': any_of(
+        'This Step', ',',  # before its links and between them
+        r'There is nothing to draw: the Start itself is refused\.',
+        r'A column is one Step, with a bar in the mode that it was in\.',
+        rf'A column is {NUMBER} Steps\. The height of a bar is the share of them that were in the mode, '
+        r'or were entries or refusals; a single one still shows\.',
+        r'There is no Step to list\.',
+        r'A Step opens to the words that it changed\.',
+        rf'Step {COUNT} is not listed\.',
+        rf'Steps {COUNT} to {COUNT} are not listed\.',
+        r'Behind the wrong Step nothing was judged\. What follows is as it was recorded\.',
+        r'No word changed\.'),
+    'a': any_of('in the timeline', 'in the list'),
+    'h2': any_of('Modes by Step', 'Steps'),
+    'li': any_of(f'entries, which took an exception: {COUNT}', f'refusals, by the rules: {COUNT}', 'the first bad Step',
+                 'recorded behind it, not judged', 'the mode at the end'),
+    'text': any_of(  # in a picture, where an event's name may be cut to its first word
+        'guest', 'Secure', 'no mode', 'entries', 'refusals', MODE, COUNT, 'end', f'Step {COUNT} WRONG',
+        f'stops here: {ANSWER} at byte {NUMBER}', 'SVC', 'SMC', 'HVC', 'Prefetch( Abort)?', 'Data Abort', 'Hyp Trap',
+        'Monitor Trap', 'interrupt( check)?', 'banked read', 'banked write', 'note'),
+    'title': f'Step {NUMBER}: {EVENT}; {STATE}',  # of a Step in a picture
+    'span': any_of('Step', 'at byte', 'event', 'it was in', 'outcome', NUMBER, EVENT, STATE, OUTCOME,
+                   f'; the rules give: {OUTCOME}'),
+    'b': 'WRONG',
+    'th': any_of('word', 'before', 'after', 'due', 'found', 'answer number', 'answer value', REGISTER),
+    'td': any_of(WORD, 'differs'),
+    'style': any_of(r'(\\[0-9A-F]+)+', r'at byte\\A0'),  # what it puts on the page: signs by their numbers
+}
