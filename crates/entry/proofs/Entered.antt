@@ -162,8 +162,8 @@ module _ (b : List ℕ) (cpsr to offset link : ℕ) (target : isTarget to ≡ tr
       ∙ word-put-same b (spsrPlace to) cpsr (omega arith) h
 
   -- any other word stays
-  pub written-other : (q : ℕ) → (spsrPlace to ≡ q → ⊥) → (lrPlace to ≡ q → ⊥) → (CPSR ≡ q → ⊥) → (PC ≡ q → ⊥)
-      → word (written b cpsr to offset link) q ≡ word b q
+  pub written-other : (q : ℕ) → (spsrPlace to ≡ q → ⊥) → (lrPlace to ≡ q → ⊥) → (CPSR ≡ q → ⊥)
+      → (PC ≡ q → ⊥) → word (written b cpsr to offset link) q ≡ word b q
   unfolding written
   written-other q s l c p =
       word-put-other b3 PC start q p

@@ -29,6 +29,6 @@ own-small fiq = lit< tt
 own-small irq = lit< tt
 
 pub offset-small : (k : Kind) (to from : ℕ) → IsOffset (offsetOf k to from)
-offset-small serror to from = offset-to-small to from 0x10 (lit< tt)
+offset-small serror to from = offset-to-small to from (ownOffset serror) (lit< tt)
 offset-small fiq to from = lit< tt
 offset-small irq to from = lit< tt

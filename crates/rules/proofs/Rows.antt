@@ -30,7 +30,8 @@ pub record Passed (b : List ℕ) (e : Event) : Type 0 where
   pub noted-good : (e .code is NOTE && notGood (noted b e)) ≡ false
 
 -- a row whose number is not DONE did not apply, if the answer is DONE
-past : (t : Bool) {n rest : ℕ} → (t ≡ true → n ≡ DONE → ⊥) → (if t then n else rest) ≡ DONE → (t ≡ false) × (rest ≡ DONE)
+past : (t : Bool) {n rest : ℕ} → (t ≡ true → n ≡ DONE → ⊥) → (if t then n else rest) ≡ DONE
+    → (t ≡ false) × (rest ≡ DONE)
 past true h e = absurd (h refl e)
 past false h e = (refl, e)
 
