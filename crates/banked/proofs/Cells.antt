@@ -1,15 +1,15 @@
 -- The 64 numbers of the code are the cells of Tables F5-116 and F5-117, and no two cells name one place: tests over the
 -- whole table.
 use mathlib.Core.Path.{_≡_, refl}
-use mathlib.Core.Bool.{Bool, true, false, not, _&&_, _||_}
+use mathlib.Core.Bool.{Bool, not, _&&_}
 use mathlib.Core.List.{List, [], _∷_}
-use Prim.Native.Nat.{ℕ, _/_, _%_, _<_, _≤_}
+use Prim.Native.Nat.{ℕ, _/_, _<_, _≤_}
 use native.Mathlib.Omega.{arith}
 use lib.Dec.{eqb, ltb}
-use lib.ListN.{getD, length, List·getD-eq-default}
+use lib.ListN.{getD, List·getD-eq-default}
 use borrow.Author.Tests.{eqb-true, eq-eqb, ne-eqb, ltb-true}
 use Rattle.state.specs.Place.{NO-PLACE, CPSR}
-use Rattle.state.proofs.Test.{everyEntry, at-entry, everyBelow, at-below, implies, implied, both}
+use Rattle.state.proofs.Test.{at-entry, everyBelow, at-below, implies, implied, both}
 use Rattle.banked.specs.Cell.{CELL-VALUES, cell, F5-116, F5-117}
 
 abbrev pub cells : List ℕ

@@ -2,21 +2,20 @@
 -- to a mode that may stand where it goes leaves a good block: once, over the target.
 use mathlib.Core.Path.{_≡_, refl, sym, ap, _∙_}
 use mathlib.Core.Bool.{Bool, true, false, not, _&&_, _||_, and-true, and-false}
-use mathlib.Core.List.{List, [], _∷_}
-use Prim.Native.Nat.{ℕ, _+_, _*_, _/_, _%_, _^_, _<_}
+use mathlib.Core.List.{List}
+use Prim.Native.Nat.{ℕ, _*_, _/_, _%_, _^_, _<_}
 use native.Mathlib.Omega.{arith}
-use lib.Dec.{eqb}
 use lib.ListN.{length}
-use borrow.Author.Tests.{eqb-true, eq-eqb, ne-eqb}
+use borrow.Author.Tests.{eq-eqb, ne-eqb}
 use Rattle.words.specs.Word.{word, put, Bytes}
-use Rattle.words.proofs.Laws.{length-put, bytes-put, word-put-same, word-put-other, spelt-fits}
-use Rattle.state.specs.Choice.{if_then_else_, _is_, _among_}
+use Rattle.words.proofs.Laws.{length-put, word-put-same, word-put-other, spelt-fits}
+use Rattle.state.specs.Choice.{if_then_else_, _is_}
 use Rattle.state.specs.Field.{bits, without, mode-field, SCR-NS, SCR-EA, HCR-TSC, HCR-TGE}
 use Rattle.state.specs.Mode.{USER, MONITOR, HYP, modes, known, el1, isTarget, spsrPlace, lrPlace}
 use Rattle.state.specs.Number.{DONE}
 use Rattle.state.specs.Place.{BLOCK-SIZE, CPSR, PC, SCR, HCR}
-use Rattle.state.specs.State.{fault, faultOf}
-use Rattle.state.proofs.Good.{stands, good-by-parts, Good, parts-of-good}
+use Rattle.state.specs.State.{fault}
+use Rattle.state.proofs.Good.{stands, good-by-parts, Good}
 use Rattle.state.proofs.Test.{and-left, and-right, both, implies, implied, everyBit, at-bit, everyOf, at-one}
 use Rattle.entry.specs.Code.{SMC, HVC, HYP-TRAP, MONITOR-TRAP, synchronous-codes, isSynchronous, isAbort}
 use Rattle.entry.specs.Code.{isGeneral, external, stage2}

@@ -1,22 +1,21 @@
 -- `way` at each code, on each way through the tests of that event: what the definition says is what the code answers.
 use mathlib.Core.Path.{_≡_, refl}
 use mathlib.Core.Bool.{Bool, true, false, not, _&&_, _||_}
-use mathlib.Core.List.{List, [], _∷_}
-use Prim.Native.Nat.{ℕ, _+_, _%_, _^_, _<_}
+use Prim.Native.Nat.{ℕ, _^_, _<_}
 use native.Mathlib.Omega.{arith}
 use borrow.Author.Tests.{not-true}
-use Rattle.state.specs.Choice.{if_then_else_, _is_, _among_}
-use Rattle.state.specs.Field.{mode-field, CPSR-T, SCR-EA, HCR-TSC, HCR-TGE}
+use Rattle.state.specs.Choice.{if_then_else_, _is_}
+use Rattle.state.specs.Field.{mode-field, CPSR-T, SCR-EA, HCR-TSC}
 use Rattle.state.specs.Mode.{USER, SUPERVISOR, MONITOR, ABORT, HYP, UNDEFINED, el1, el1-modes}
 use Rattle.state.specs.Number.{NOT-HERE}
-use Rattle.state.specs.State.{secure, nsEl1, nsUser}
+use Rattle.state.specs.State.{secure, nsEl1}
 use Rattle.state.proofs.Test.{and-left, and-right, at-one}
 use Rattle.entry.specs.Code.{UNDEFINED-INSTRUCTION, SVC, SMC, HVC, PREFETCH-ABORT, DATA-ABORT, HYP-TRAP, MONITOR-TRAP}
 use Rattle.entry.specs.Code.{external, stage2}
 use Rattle.entry.specs.Parts.{narrow, generalToHyp, abortWay}
 use Rattle.entry.specs.Route.{wrap, offsetTo, linkTo, toMonitor, toHyp, target, offset, link, notHere, way}
 use Rattle.entry.specs.Offset as offsets
-use Rattle.entry.specs.Way.{Way, Barred, Enter}
+use Rattle.entry.specs.Way.{Barred, Enter}
 
 -- nothing added to an address, or to a sum that has wrapped
 pub wrap-none : (x : ℕ) → x < 2 ^ 32 → wrap x 0 ≡ x

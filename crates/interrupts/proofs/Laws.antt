@@ -1,11 +1,11 @@
 -- The masking table asked quickly, the virtual exceptions asked together, and the first of the six on each way through.
-use mathlib.Core.Path.{_≡_, refl, sym, ap, _∙_}
+use mathlib.Core.Path.{_≡_, refl, ap, _∙_}
 use mathlib.Core.Bool.{Bool, true, false, not, _&&_, _||_}
 use mathlib.Core.List.{List, [], _∷_}
 use Prim.Native.Nat.{ℕ, suc}
 use lib.Dec.{eqb}
 use borrow.Author.Tests.{eqb-true}
-use Rattle.state.specs.Choice.{if_then_else_, _is_, _among_}
+use Rattle.state.specs.Choice.{if_then_else_, _is_}
 use Rattle.state.specs.Field.{mode-field, SCR-NS, HCR-TGE}
 use Rattle.state.specs.Mode.{USER, HYP, el1, guest}
 use Rattle.state.specs.State.{secure, nsEl1, nsUser}

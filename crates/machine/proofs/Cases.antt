@@ -1,7 +1,7 @@
 -- The starred cases a to j of document 01 ("Numbers to hold against it"), as one list under one statement.
 -- antt computes it.
 use mathlib.Core.Path.{_≡_, refl}
-use mathlib.Core.Bool.{Bool, true, false, _&&_}
+use mathlib.Core.Bool.{Bool, true, _&&_}
 use mathlib.Core.List.{List, [], _∷_}
 use Prim.Native.Nat.{ℕ}
 use lib.Dec.{eqb}

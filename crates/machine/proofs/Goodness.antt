@@ -1,7 +1,7 @@
 -- A done step on a good block leaves a good block: where an exception goes its target may stand, and a word that is put leaves
 -- the three that a block is judged by, or is tested on the block that it makes.
 use mathlib.Core.Path.{_≡_, refl, sym, ap, _∙_}
-use mathlib.Core.Bool.{Bool, true, false, not, _&&_, _||_}
+use mathlib.Core.Bool.{true, false, not, _&&_, _||_}
 use mathlib.Core.List.{List}
 use Prim.Native.Nat.{ℕ, _*_, _/_, _%_, _^_, _<_}
 use native.Mathlib.Nat.{div-div-eq-div-mul}
@@ -11,7 +11,7 @@ use lib.ListN.{length}
 use borrow.Author.Tests.{eqb-true, eqb-false, not-false}
 use Rattle.words.specs.Word.{word, put, Bytes}
 use Rattle.words.proofs.Laws.{length-put, bytes-put, word-put-same, word-put-other, spelt-fits}
-use Rattle.state.specs.Choice.{if_then_else_, _is_}
+use Rattle.state.specs.Choice.{_is_}
 use Rattle.state.specs.Field.{without, mode-field, SCR-NS, HCR-TGE}
 use Rattle.state.specs.Mode.{isTarget}
 use Rattle.state.specs.Number.{DONE}

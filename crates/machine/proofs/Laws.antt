@@ -1,8 +1,8 @@
 -- What a caller of the step expects: it keeps the block's length, bytes stay bytes, and number and value are words.
-use mathlib.Core.Path.{_≡_, refl, sym, ap, _∙_}
-use mathlib.Core.Bool.{Bool, true, false, not, _&&_, _||_}
+use mathlib.Core.Path.{_≡_, refl, sym, _∙_}
+use mathlib.Core.Bool.{Bool, true, false, not, _&&_}
 use mathlib.Core.List.{List, [], _∷_}
-use Prim.Native.Nat.{ℕ, _+_, _*_, _^_, _<_, _≤_}
+use Prim.Native.Nat.{ℕ, _*_, _^_, _<_}
 use native.Mathlib.Omega.{arith}
 use lib.Dec.{ltb, lit<}
 use borrow.Author.Tests.{eqb-true, ltb-true, lt-ltb}
@@ -11,9 +11,9 @@ use Rattle.words.specs.Word.{word, put, Bytes}
 use Rattle.words.proofs.Laws.{length-put, bytes-put, spelt-fits}
 use Rattle.state.specs.Choice.{if_then_else_, _is_, Row, firstOf}
 use Rattle.state.specs.Field.{mode-field, without}
-use Rattle.state.specs.Mode.{HYP, MONITOR, spsrPlace, lrPlace}
-use Rattle.state.specs.Number.{DONE, NO-RIGHT}
-use Rattle.state.specs.Place.{CPSR, PC, SCR, HCR}
+use Rattle.state.specs.Mode.{HYP, MONITOR}
+use Rattle.state.specs.Number.{DONE}
+use Rattle.state.specs.Place.{CPSR, SCR, HCR}
 use Rattle.state.specs.State.{secure}
 use Rattle.state.proofs.Test.{and-left, and-right, both}
 use Rattle.entry.specs.Enter.{nsCleared, written, entered}

@@ -1,11 +1,11 @@
 -- The step put together: what was decided is carried out; over an answer buffer, a wrong size leaves both buffers.
-use mathlib.Core.Path.{_≡_, refl, sym, ap, _∙_}
-use mathlib.Core.Bool.{Bool, true, false, _&&_}
+use mathlib.Core.Path.{_≡_, refl, _∙_}
+use mathlib.Core.Bool.{false}
 use mathlib.Core.List.{List}
 use Prim.Native.Nat.{ℕ, _<_, _^_}
 use lib.ListN.{length}
 use borrow.Author.Tests.{eq-eqb, ne-eqb}
-use Rattle.state.specs.Choice.{if_then_else_, _is_}
+use Rattle.state.specs.Choice.{_is_}
 use Rattle.state.specs.Number.{DONE, BAD-SIZE}
 use Rattle.state.specs.Place.{BLOCK-SIZE}
 use Rattle.state.specs.State.{fault}

@@ -1,27 +1,19 @@
 -- An action carried out: what is known of one that is the same action, and of the parts that make it.
 use mathlib.Core.Path.{_≡_, refl, sym, ap, _∙_}
-use mathlib.Core.List.{List, _++_}
-use Prim.Native.Nat.{ℕ, _<_, _^_}
-use lib.Dec.{lit<}
+use mathlib.Core.List.{List}
+use Prim.Native.Nat.{ℕ}
 use borrow.Author.Tests.{eqb-false}
-use Rattle.words.specs.Word.{le32, word, put}
+use Rattle.words.specs.Word.{word, put}
 use Rattle.words.proofs.Laws.{word-put-other}
 use Rattle.state.specs.Field.{without}
-use Rattle.state.specs.Number.{DONE}
 use Rattle.state.specs.Place.{CPSR, SCR, HCR}
 use Rattle.entry.specs.Enter.{entered}
 use Rattle.interrupts.specs.declared.exception.Exception.{Exception}
 use Rattle.interrupts.specs.declared.exception.Exception.the-variants.{Synchronous, SError, Fiq, Irq}
 use Rattle.interrupts.specs.declared.exception.Exception.the-variants.{VirtualSError, VirtualFiq, VirtualIrq}
-use Rattle.rules.specs.Event.{Event}
 use Rattle.rules.specs.Parts.{Told, Carried}
-use Rattle.rules.specs.Step.{Action, Refuse, Take, vaCleared, action, answerBytes}
-use Rattle.rules.specs.Verdict.{Answer, Verdict, entryTo, value, answerFor, refusedWith}
-
--- a verdict told by the value that was made of it
-pub told-done : (v : Verdict) {x : ℕ} {m : List ℕ} → m ≡ le32 DONE ++ le32 x → x ≡ value v → x < 2 ^ 32
-    → Told (answerFor v) DONE m
-told-done v p e f = (refl, rw (← e) p, rw (← e) f)
+use Rattle.rules.specs.Step.{Action, Refuse, Take, vaCleared, action}
+use Rattle.rules.specs.Verdict.{entryTo, answerFor, refusedWith}
 
 -- clearing VA leaves the block, or puts one word
 pub va-cases : (P : List ℕ → Type 0) (b : List ℕ) (x : Exception) → P b → P (put b HCR (without 8 (word b HCR)))

@@ -2,7 +2,7 @@
 -- ways it comes to what the rows of refusals and the rules say.
 use mathlib.Core.Path.{_≡_, refl, sym, ap, _∙_}
 use mathlib.Core.Bool.{Bool, true, false, not, _&&_, _||_, or-false}
-use mathlib.Core.List.{List, [], _∷_}
+use mathlib.Core.List.{List}
 use Prim.Native.Nat.{ℕ, _^_, _<_}
 use native.Mathlib.Omega.{arith}
 use lib.Dec.{leb, lit<}
@@ -24,7 +24,7 @@ use Rattle.banked.specs.Cell.{cell}
 use Rattle.banked.specs.Right.{right}
 use Rattle.rules.specs.Event.{Event, INTERRUPT-CHECK, BANKED-READ, BANKED-WRITE, NOTE, isKnown, valuesOfA, takesB, badEvent}
 use Rattle.rules.specs.Parts.{judgedPut}
-use Rattle.rules.specs.Refusal.{unknownMode, notGood, noted, refusal}
+use Rattle.rules.specs.Refusal.{unknownMode, notGood, refusal}
 use Rattle.rules.specs.Step.{Action, Refuse, Read, Put, takenBy, eventWay, foundIn, checkedIn, doneAction, action}
 
 -- an event by its three words

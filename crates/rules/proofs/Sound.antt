@@ -1,14 +1,13 @@
 -- What a step that no row refuses comes to can be carried out: its places lie in the block, its target has a saved state.
-use mathlib.Core.Path.{_≡_, refl, sym, ap, _∙_}
-use mathlib.Core.Bool.{Bool, true, false, not, _&&_, _||_, or-false}
-use mathlib.Core.List.{List, [], _∷_}
+use mathlib.Core.Path.{_≡_, refl}
+use mathlib.Core.Bool.{Bool, true, false, not, _||_}
+use mathlib.Core.List.{List}
 use Prim.Native.Nat.{ℕ, _<_, _^_}
 use native.Mathlib.Omega.{arith}
 use lib.Dec.{leb, ltb}
-use lib.ListN.{length}
 use borrow.Author.Tests.{eqb-true, eqb-false, leb-false, ltb-true}
 use Rattle.words.specs.Word.{word}
-use Rattle.state.specs.Choice.{if_then_else_, _is_, _among_, Row, firstOf}
+use Rattle.state.specs.Choice.{if_then_else_, _is_}
 use Rattle.state.specs.Mode.{targets, isTarget}
 use Rattle.state.specs.Number.{DONE}
 use Rattle.state.proofs.Test.{at-one}
@@ -34,7 +33,7 @@ use Rattle.rules.specs.Parts.{Sound}
 use Rattle.rules.specs.Refusal.{refusal}
 use Rattle.rules.proofs.Deciding.{by-code}
 use Rattle.rules.proofs.Rows.{Passed, passed}
-use Rattle.rules.specs.Step.{Action, Refuse, Take, Read, Put, takenBy, eventWay, foundIn, checked, doneAction, action}
+use Rattle.rules.specs.Step.{Refuse, Take, takenBy, eventWay, foundIn, checked, doneAction, action}
 
 -- a way that is sound
 abbrev pub SoundWay : Way → Type 0

@@ -1,8 +1,8 @@
 -- A block is good by its parts: a known mode, bits 24 to 21 clear, and a mode that stands where NS and TGE let it.
 use mathlib.Core.Path.{_≡_, refl, sym, _∙_}
 use mathlib.Core.Bool.{Bool, true, false, not, _&&_}
-use mathlib.Core.List.{List, [], _∷_}
-use Prim.Native.Nat.{ℕ, _<_}
+use mathlib.Core.List.{[], _∷_}
+use Prim.Native.Nat.{ℕ}
 use native.Mathlib.Omega.{arith}
 use borrow.Author.Tests.{eqb-false, not-false}
 use Rattle.state.specs.Choice.{if_then_else_, _is_, firstOf}

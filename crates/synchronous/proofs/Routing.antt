@@ -6,7 +6,6 @@ use mathlib.Core.List.{List}
 use Prim.Native.Nat.{ℕ, _<_, _^_}
 use lib.Dec.{leb}
 use lib.ListN.{length}
-use borrow.Author.Tests.{eqb-true}
 use Rattle.words.specs.Word.{word, Bytes}
 use Rattle.words.proofs.Laws.{spelt-fits}
 use Rattle.state.specs.Choice.{_is_}

@@ -1,7 +1,7 @@
 -- Four words put, each at the place and with the value of the definition; a target's places lie inside the block.
 use mathlib.Core.List.{List}
 use mathlib.Core.Path.{_≡_}
-use Prim.Native.Nat.{ℕ, _*_, _/_, _%_}
+use Prim.Native.Nat.{ℕ}
 use borrow.Author.Needs.{needs}
 use native.Mathlib.Omega.{arith}
 use Rattle.entry.proofs.enter.write_entry.Statement.{statement}

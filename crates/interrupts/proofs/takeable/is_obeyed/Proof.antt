@@ -1,5 +1,4 @@
 -- The masking table, asked by tests.
-use mathlib.Core.Path.{sym}
 use Rattle.interrupts.proofs.Laws.{obeyed-by}
 use Rattle.interrupts.proofs.takeable.is_obeyed.Statement.{statement}
 use Rattle.interrupts.proofs.takeable.is_obeyed.Tie as tie

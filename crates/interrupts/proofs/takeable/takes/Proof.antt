@@ -1,7 +1,7 @@
 -- With the line set, the mask bit counts where it is obeyed.
-use mathlib.Core.Bool.{Bool, true, false, not, _&&_, and-true, and-false}
-use mathlib.Core.Path.{_≡_, refl, ap, _∙_}
-use mathlib.Core.Path.{_≡_, refl, sym, ap, _∙_}
+use mathlib.Core.Bool.{not, and-true, and-false}
+use mathlib.Core.Path.{ap}
+use mathlib.Core.Path.{ap}
 use borrow.Author.Needs.{needs}
 use Rattle.interrupts.proofs.takeable.takes.Statement.{statement}
 use Rattle.interrupts.proofs.takeable.takes.Tie as tie

@@ -7,7 +7,6 @@ use Rattle.rules.proofs.Buffer.{two-words}
 use Rattle.rules.proofs.answer.tell.Statement.{statement}
 use Rattle.rules.proofs.answer.tell.Tie as tie
 use Rattle.rules.specs.Step.{answerBytes}
-use Rattle.rules.specs.Verdict.{Answer}
 use Rattle.words.specs.Word.{put}
 
 -- the answer that is told and the buffer that was lent, seen from behind both stores

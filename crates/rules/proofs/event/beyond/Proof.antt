@@ -1,5 +1,4 @@
 -- The bound, and then B.
-use mathlib.Core.Bool.{not}
 use borrow.Author.Tests.{lt-leb, le-leb}
 use Rattle.rules.proofs.event.beyond.Statement.{statement}
 use Rattle.rules.proofs.event.beyond.Tie as tie

@@ -3,7 +3,6 @@ use mathlib.Core.List.{List}
 use mathlib.Core.Path.{_≡_, refl, ap, _∙_}
 use Prim.Native.Nat.{ℕ}
 use borrow.Author.Needs.{needs}
-use Rattle.interrupts.specs.declared.exception.Exception.the-variants.{VirtualSError}
 use Rattle.interrupts.specs.declared.exception.Exception.{Exception}
 use Rattle.rules.proofs.taking.clear_va.Statement.{statement}
 use Rattle.rules.proofs.taking.clear_va.Tie as tie

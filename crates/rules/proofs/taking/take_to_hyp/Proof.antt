@@ -8,7 +8,7 @@ use Rattle.interrupts.specs.declared.exception.Exception.{Exception}
 use Rattle.rules.proofs.Carrying.{same-action}
 use Rattle.rules.proofs.taking.take_to_hyp.Statement.{statement}
 use Rattle.rules.proofs.taking.take_to_hyp.Tie as tie
-use Rattle.rules.specs.Step.{Action, Take}
+use Rattle.rules.specs.Step.{Take}
 use Rattle.state.specs.Field.{mode-field}
 use Rattle.state.specs.Mode.{HYP}
 
