@@ -10,6 +10,7 @@ use Rattle.console.proofs.check.pomurica_check.Statement.{statement}
 use Rattle.console.proofs.check.pomurica_check.Tie as tie
 use Rattle.console.specs.Check.{reportSize, reportBytes, checkReturns, checkLeaves}
 use Rattle.trace.specs.declared.check.Report.{Report}
+use Rattle.words.specs.Word.{put}
 
 returns : tie.Need-returns
 unfolding checkReturns checkLeaves
@@ -28,10 +29,18 @@ checked c = c .before .before .before .before .before .before .before .before .b
 abbrev wordsOf : Report → List ℕ
 wordsOf v = v .number ∷ v .place ∷ v .steps ∷ []
 
--- the words were put one behind the other
-put : (c : tie.After-put-word3)
+-- the words were put one behind the other, each at its place
+all-put : (c : tie.After-put-word3)
     → let at = checked c in c .put-word3 .last .0 ≡ putAll (buffer at) 0 (wordsOf (at .check .result))
-put c = cc
+all-put c =
+    let second = c .before .before .before .before in
+    let first = second .before .before .before .before in
+    let b = buffer (checked c) in
+    let v = checked c .check .result in
+    let number : first .put-word .last .0 ≡ put b 0 (v .number) = first .put-word .ensures in
+    let place : second .put-word2 .last .0 ≡ put (first .put-word .last .0) 1 (v .place) = second .put-word2 .ensures in
+    let steps : c .put-word3 .last .0 ≡ put (second .put-word2 .last .0) 2 (v .steps) = c .put-word3 .ensures in
+    steps ∙ ap (λ (l : List ℕ). put l 2 (v .steps)) (place ∙ ap (λ (l : List ℕ). put l 1 (v .place)) number)
 
 returns-2 : tie.Need-returns-2
 unfolding checkReturns checkLeaves
@@ -42,7 +51,7 @@ returns-2 c =
     let is = at .check .ensures .0 in (
       simp (eq-eqb _ _ size) (ap (λ (w : Report). w .number) is),
       (
-        simp (eq-eqb _ _ size) (put last ∙ filled (wordsOf (at .check .result)) (buffer at) size ∙ ap reportBytes is),
+        simp (eq-eqb _ _ size) (all-put last ∙ filled (wordsOf (at .check .result)) (buffer at) size ∙ ap reportBytes is),
         λ e. at .check .ensures .1,
       ),
     )
