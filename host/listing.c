@@ -1,6 +1,7 @@
-/* The Steps of a trace, each opening to its changed words: see shown.h. */
-#include "shown.h"
+/* The Steps of a trace, each opening to its changed words: see listing.h. */
+#include "listing.h"
 
+#include "count.h"
 #include "phrases.h"
 #include "pomurica.h"
 #include "record.h"

@@ -1,24 +1,16 @@
 /* A trace as a page for a browser: see page.h. */
 #include "page.h"
 
+#include "listing.h"
 #include "phrases.h"
 #include "pomurica.h"
 #include "record.h"
 #include "shown.h"
 #include "style.h"
 #include "tell.h"
+#include "timeline.h"
 
 #include <inttypes.h>
-
-void put_count(FILE *out, uint32_t count)
-{
-    if (count < 1000) {
-        fprintf(out, "%" PRIu32, count);
-        return;
-    }
-    put_count(out, count / 1000);
-    fprintf(out, ",%03" PRIu32, count % 1000);
-}
 
 /*
  * The bytes of the UTF-8 character that begins here, 0 where none does.  The

@@ -17,6 +17,37 @@ static const char *const REGISTERS[POMURICA_PLACES] = {
     "CPSR", "PC", "SCR", "HCR", "SCTLR_s", "SCTLR_ns", "HSCTLR", "VBAR_s", "VBAR_ns", "HVBAR", "MVBAR",
 };
 
+/*
+ * The register that SYSm names, by its bits 2-0 and 4-3: Arm's Tables F5-116
+ * and F5-117, where an empty cell is CONSTRAINED UNPREDICTABLE.
+ */
+#define NONE NULL
+
+static const char *const CELLS_R_0[8][4] = {
+    { "R8_usr", "R8_fiq", "LR_irq", NONE },
+    { "R9_usr", "R9_fiq", "SP_irq", NONE },
+    { "R10_usr", "R10_fiq", "LR_svc", NONE },
+    { "R11_usr", "R11_fiq", "SP_svc", NONE },
+    { "R12_usr", "R12_fiq", "LR_abt", "LR_mon" },
+    { "SP_usr", "SP_fiq", "SP_abt", "SP_mon" },
+    { "LR_usr", "LR_fiq", "LR_und", "ELR_hyp" },
+    { NONE, NONE, "SP_und", "SP_hyp" },
+};
+
+static const char *const CELLS_R_1[8][4] = {
+    { NONE, NONE, "SPSR_irq", NONE },
+    { NONE, NONE, NONE, NONE },
+    { NONE, NONE, "SPSR_svc", NONE },
+    { NONE, NONE, NONE, NONE },
+    { NONE, NONE, "SPSR_abt", "SPSR_mon" },
+    { NONE, NONE, NONE, NONE },
+    { NONE, "SPSR_fiq", "SPSR_und", "SPSR_hyp" },
+    { NONE, NONE, NONE, NONE },
+};
+
+/* A of a banked access, 32 * R + SYSm, is at most this. */
+enum { MOST_CELL = 63 };
+
 static const char *const LINES[] = { "SError", "FIQ", "IRQ", "virtual FIQ", "virtual IRQ" };
 
 static const char *const EXCEPTIONS[] = {
@@ -65,6 +96,15 @@ const char *register_name(uint32_t place)
     return REGISTERS[place];
 }
 
+const char *banked_name(uint32_t a)
+{
+    const uint32_t r = a >> 5, row = a & 7, column = a >> 3 & 3;
+
+    if (a > MOST_CELL)
+        return NULL;
+    return r == 0 ? CELLS_R_0[row][column] : CELLS_R_1[row][column];
+}
+
 const char *part_name(uint32_t part)
 {
     if (part == POMURICA_PART_NUMBER)
@@ -105,6 +145,43 @@ static void tell_note(FILE *out, uint32_t place, uint32_t word)
         fprintf(out, " on place %" PRIu32 ", which is none", place);
 }
 
+static void tell_banked(FILE *out, uint32_t a)
+{
+    if (banked_name(a) != NULL)
+        fputs(banked_name(a), out);
+    else if (a > MOST_CELL)
+        fprintf(out, "no register (A %" PRIu32 ", above %d)", a, MOST_CELL);
+    else
+        fprintf(out, "no register (R %" PRIu32 " SYSm 0x%02" PRIX32 ")", a >> 5, a & 31);
+}
+
+/* What follows the name of an event: its operands. */
+static void tell_operands(FILE *out, uint32_t code, uint32_t a, uint32_t b)
+{
+    switch (code) {
+    case POMURICA_EVENT_PREFETCH_ABORT:
+    case POMURICA_EVENT_DATA_ABORT:
+        fputs(a & POMURICA_ABORT_STAGE_2 ? " of stage 2" : "", out);
+        break;
+    case POMURICA_EVENT_INTERRUPT_CHECK:
+        tell_lines(out, a);
+        break;
+    case POMURICA_EVENT_BANKED_READ:
+        fputs(" of ", out);
+        tell_banked(out, a);
+        break;
+    case POMURICA_EVENT_BANKED_WRITE:
+        fprintf(out, " of 0x%08" PRIX32 " to ", b);
+        tell_banked(out, a);
+        break;
+    case POMURICA_EVENT_NOTE:
+        tell_note(out, a, b);
+        break;
+    default:
+        break;
+    }
+}
+
 void tell_event(FILE *out, const uint8_t *step)
 {
     const uint32_t code = pomurica_get_word(step, STEP_CODE);
@@ -116,16 +193,7 @@ void tell_event(FILE *out, const uint8_t *step)
         return;
     }
     fprintf(out, "%s%s", aborts && a & POMURICA_ABORT_EXTERNAL ? "external " : "", event_name(code));
-    if (aborts && a & POMURICA_ABORT_STAGE_2)
-        fputs(" of stage 2", out);
-    if (code == POMURICA_EVENT_INTERRUPT_CHECK)
-        tell_lines(out, a);
-    if (code == POMURICA_EVENT_NOTE)
-        tell_note(out, a, b);
-    if (code == POMURICA_EVENT_BANKED_WRITE)
-        fprintf(out, " of 0x%08" PRIX32, b);
-    if (code == POMURICA_EVENT_BANKED_READ || code == POMURICA_EVENT_BANKED_WRITE)
-        fprintf(out, ", R %" PRIu32 " SYSm 0x%02" PRIX32, a >> 5, a & 31);
+    tell_operands(out, code, a, b);
 }
 
 void tell_state(FILE *out, const uint8_t *block)

@@ -16,13 +16,16 @@ const char *event_name(uint32_t code);
 /* The register at a place of the block. */
 const char *register_name(uint32_t place);
 
+/* The register that A of a banked access names; NULL for an A that names none. */
+const char *banked_name(uint32_t a);
+
 /* A part of a Step: enum pomurica_part, but not POMURICA_PART_NONE. */
 const char *part_name(uint32_t part);
 
 /* The verdict, from the first three words of a report or an explanation: "accepted, 9 Steps". */
 void tell_verdict(FILE *out, const uint8_t *report);
 
-/* The event of a Step: "interrupt check, lines IRQ". */
+/* The event of a Step: "interrupt check, lines IRQ", "banked write of 0x00000007 to SP_usr". */
 void tell_event(FILE *out, const uint8_t *step);
 
 /* The state of a block: "Non-secure Supervisor, masked I". */

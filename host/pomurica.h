@@ -69,7 +69,7 @@ enum pomurica_number {
  * Event codes.  An event is a code and two operands, A and B, which are 0
  * where none is named here.
  */
-enum pomurica_event {
+enum pomurica_code {
     POMURICA_EVENT_UNDEFINED = 1,
     POMURICA_EVENT_SVC = 2,
     POMURICA_EVENT_SMC = 3,

@@ -1,12 +1,9 @@
-/*
- * What a page shows of a trace, and the two parts of the page that show Steps.
- */
+/* What a page shows of a trace. */
 #ifndef SHOWN_H
 #define SHOWN_H
 
 #include <stdbool.h>
 #include <stdint.h>
-#include <stdio.h>
 
 /*
  * The most Steps that are shown one by one.  Of a longer trace the timeline has
@@ -27,14 +24,5 @@ static inline bool is_wrong(const struct shown *shown, uint32_t index)
 {
     return index == shown->right && index < shown->judged;
 }
-
-/* A number for a person to read: "65,535". */
-void put_count(FILE *out, uint32_t count);
-
-/* The modes by Step, as pictures, with what their marks mean. */
-void draw_timeline(FILE *out, const struct shown *shown);
-
-/* The Steps that are listed, each opening to its changed words, and which are left out. */
-void list_steps(FILE *out, const struct shown *shown);
 
 #endif

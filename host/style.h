@@ -17,7 +17,8 @@ static const char STYLE[] =
     "header.refused { border-color: var(--wrong); background: #fff1f0; }\n"
     "header.accepted h1::before { content: \"\\2714\\A0\"; color: #1a7f37; }\n"
     "header.refused h1::before { content: \"\\2718\\A0\"; color: var(--wrong); }\n"
-    "header pre { max-height: 14rem; margin: 0.5rem 0; overflow: auto; font: 0.9rem/1.45 ui-monospace, monospace; }\n"
+    "header pre { max-height: 14rem; margin: 0.5rem 0; overflow: auto; white-space: pre-wrap; overflow-wrap: anywhere;"
+    " font: 0.9rem/1.45 ui-monospace, monospace; }\n"
 
     ".legend { display: flex; flex-wrap: wrap; gap: 0.25rem 1.5rem; margin: 0.25rem 0 0.5rem; padding: 0;"
     " list-style: none; }\n"
@@ -76,6 +77,18 @@ static const char STYLE[] =
     "summary { grid-template-columns: 4.5rem 1fr; }\n"
     "summary span:nth-child(2)::before { content: \"at byte\\A0\"; }\n"
     "summary span:nth-child(n + 3) { grid-column: 2; }\n"
+    "}\n"
+
+    /* Three words of a wrong Step side by side have room, below the name of their register. */
+    "@media screen and (max-width: 30rem) {\n"
+    "header pre { max-height: none; }\n"
+    "table { margin-left: 0.5rem; }\n"
+    "th, td { padding-right: 0.5rem; }\n"
+    "details > p { padding-left: 0.5rem; }\n"
+    ".wrong table, .wrong tbody { display: block; }\n"
+    ".wrong tr { display: grid; grid-template-columns: repeat(3, 1fr); }\n"
+    ".wrong tr > :first-child { grid-area: 1 / 1 / 2 / 3; }\n"
+    ".wrong tr > :last-child { grid-area: 1 / 3 / 2 / 4; }\n"
     "}\n"
 
     /* On paper the timeline is as wide as the sheet, so its letters are drawn larger. */

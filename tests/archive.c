@@ -195,8 +195,6 @@ static void run_wrong_size(size_t block_len, size_t answer_len)
           "block of %zu bytes, answer of %zu: number %u", block_len, answer_len, call.number);
 }
 
-#define LONGEST_TRIED 200
-
 static void run_lengths(void)
 {
     for (size_t block_len = 0; block_len <= LONGEST_TRIED; block_len++) {

@@ -3,6 +3,7 @@
  * trace cut before each of its bytes, bytes behind it, each byte changed, and
  * every length of the report from 0 to 200.
  */
+#include "case_l.h"
 #include "edge.h"
 #include "group.h"
 #include "lent.h"
@@ -100,10 +101,8 @@ static void expect(const uint8_t *bytes, size_t length,
 
 static void run_case_l(void)
 {
-    static const uint8_t SHORTEST[192] = { [0] = 0xB8, [2] = 1, [184] = 8, [186] = 3 };
-
-    expect(SHORTEST, 192, POMURICA_DONE, 192, 0);
-    expect(SHORTEST, 191, POMURICA_SHORT, 184, 0);
+    expect(SHORTEST, SHORTEST_SIZE, POMURICA_DONE, SHORTEST_SIZE, 0);
+    expect(SHORTEST, SHORTEST_SIZE - 1, POMURICA_SHORT, SHORTEST_END, 0);
     expect(SHORTEST, 0, POMURICA_SHORT, 0, 0);
 }
 
@@ -165,7 +164,7 @@ static void run_counts(const uint8_t *trace)
 
 static void run_report_lengths(const uint8_t *trace)
 {
-    for (size_t length = 0; length <= 200; length++) {
+    for (size_t length = 0; length <= LONGEST_TRIED; length++) {
         struct lent lent;
         uint8_t *report = lend(&lent, OLD_REPORT, length, length % 16);
 

@@ -8,6 +8,7 @@
  * The other is the second implementation's, unless OTHER_CHECK says otherwise.
  * Prints how often each number was given and fails where one was too seldom.
  */
+#include "case_l.h"
 #include "chance.h"
 #include "edge.h"
 #include "group.h"
@@ -100,11 +101,10 @@ static bool compare(const uint8_t *trace, size_t length, const struct expected *
 /* Worked case l, side by side. */
 static void compare_case_l(void)
 {
-    static const uint8_t SHORTEST[192] = { [0] = 0xB8, [2] = 1, [184] = 8, [186] = 3 };
     struct call ours;
 
-    compare(SHORTEST, 192, &(struct expected){ true, DONE, 192, 0 }, &ours);
-    compare(SHORTEST, 191, &(struct expected){ true, SHORT, 184, 0 }, &ours);
+    compare(SHORTEST, SHORTEST_SIZE, &(struct expected){ true, DONE, SHORTEST_SIZE, 0 }, &ours);
+    compare(SHORTEST, SHORTEST_SIZE - 1, &(struct expected){ true, SHORT, SHORTEST_END, 0 }, &ours);
     compare(SHORTEST, 0, &(struct expected){ true, SHORT, 0, 0 }, &ours);
 }
 
@@ -114,7 +114,7 @@ static void compare_sizes(struct chance *chance, uint8_t *trace)
     struct expected expected;
     struct call ours;
 
-    for (size_t report_len = 0; report_len <= 200; report_len++) {
+    for (size_t report_len = 0; report_len <= LONGEST_TRIED; report_len++) {
         const size_t length = make_trace(chance, HONEST, trace, &expected);
 
         agree(trace, length, report_len, &ours);

@@ -15,10 +15,10 @@ import tempfile
 
 sys.dont_write_bytecode = True
 from page import Page  # noqa: E402
+from records import (  # noqa: E402
+    BLOCK_SIZE, END_SIZE, SAMPLES, SHORTEST, START_SIZE, STEP_KIND, STEP_SIZE, long_trace, start_record)
 
-SHORTEST = b'\xb8\0\1\0' + bytes(180) + b'\x08\0\3\0' + bytes(4)
 USAGE = b'usage: console'
-SAMPLES = os.path.join(os.path.dirname(os.path.dirname(os.path.abspath(__file__))), 'samples')
 
 KIND, FOLDER, LINES, COMMAND = sys.argv[1], sys.argv[2], sys.argv[3], sys.argv[4:]
 results = []
@@ -72,7 +72,7 @@ def write(name, content):
 
 def try_verdicts():
     good, cut = write('good', SHORTEST), write('cut', SHORTEST[:-1])
-    accepted, refused = b'good: accepted, 0 Steps\n', b'cut: refused 8 SHORT at byte 184 after 0 Steps\n'
+    accepted, refused = b'good: accepted, 0 Steps\n', b'cut: refused 8 SHORT at byte %d after 0 Steps\n' % START_SIZE
     missing = b'console: missing: No such file or directory\n'
     expect_run('accepted', [good], 0, accepted)
     expect_run('refused', [cut], 1, refused)
@@ -106,7 +106,7 @@ def try_input():
     expect_run('a file that fails while it is read', ['/proc/self/mem'], 2, b'', b'console: /proc/self/mem: ')
     with open(write('huge', SHORTEST), 'r+b') as file:
         file.truncate(400 << 20)
-    expect_run('a file of 400 megabytes', ['huge'], 1, b'huge: refused 12 TRAILING at byte 192 after 0 Steps\n')
+    expect_run('a file of 400 megabytes', ['huge'], 1, b'huge: refused 12 TRAILING at byte %d after 0 Steps\n' % len(SHORTEST))
     write('forged\ngood: accepted, 0 Steps', b'')
     expect_run('a name with a line end in it', ['forged\ngood: accepted, 0 Steps'], 1,
                b'forged?good: accepted, 0 Steps: refused 8 SHORT at byte 0 after 0 Steps\n')
@@ -156,8 +156,8 @@ def parted(out):
 
 def try_telling():
     expect_run('--explain', ['--explain', 'good', 'cut'], 1,
-               b'good: accepted, 0 Steps\ncut: refused 8 SHORT at byte 184 after 0 Steps\n'
-               b'  the End of 8 bytes was due; only 7 are there\n')
+               b'good: accepted, 0 Steps\ncut: refused 8 SHORT at byte %d after 0 Steps\n'
+               b'  the End of %d bytes was due; only %d are there\n' % (START_SIZE, END_SIZE, END_SIZE - 1))
     expect_run('--explain --quiet', ['--explain', '--trace', '--quiet', 'cut'], 1, b'')
     expect_run('--trace', ['--trace', 'good'], 0, b'good: accepted, 0 Steps\n')
 
@@ -220,26 +220,6 @@ def expect_page(name, page, *texts, **numbers):
     expect(name, not page.faults and not missing and {**seen, **numbers} == seen, (page.faults[:3], missing, seen))
 
 
-def note(block, place, word):
-    """The Step of a note that is done, and the block that it leaves."""
-    after = block[:4 * place] + word + block[4 * place + 4:]
-    return struct.pack('<HHIIIII', 200, 2, 12, place, int.from_bytes(word, 'little'), 0, 0) + after, after
-
-
-def long_trace(count, wrong=None):
-    """An honest trace: a sample's Steps and notes that bring its start block back, over and over; or one Step wrong."""
-    with open(os.path.join(SAMPLES, 'honest.trace'), 'rb') as file:
-        sample = file.read()
-    start, round_trip, block = sample[8:184], sample[184:-8], sample[-184:-8]
-    for place in [33, *range(33), *range(34, 44)]:  # CPSR first: User may have any other word
-        step, block = note(block, place, start[4 * place:4 * place + 4])
-        round_trip += step
-    steps = bytearray((round_trip * (200 * count // len(round_trip) + 1))[:200 * count])
-    if wrong:
-        steps[200 * wrong - 1] ^= 1  # of MVBAR, its last word
-    return struct.pack('<HHI', 184, 1, count) + start + bytes(steps) + struct.pack('<HHI', 8, 3, count)
-
-
 def try_pages():
     names = sorted(os.listdir(FOLDER))
     expect_pages('samples', [os.path.join(SAMPLES, name) for name in os.listdir(SAMPLES) if name.endswith('.trace')])
@@ -252,13 +232,13 @@ def try_pages():
 
 def try_unjudged():
     """Steps behind a wrong one are shown as far as they go."""
-    step = b'\xc8\0\2\0' + (b'"><script>&' * 20)[:196]
-    start = (b'</pre><b>' * 20)[:176]
-    write('text', struct.pack('<HHI', 184, 1, 9) + start + 4 * step + 200 * b'<')
+    step = (struct.pack('<HH', STEP_SIZE, STEP_KIND) + b'"><script>&' * 20)[:STEP_SIZE]
+    start = (b'</pre><b>' * 20)[:BLOCK_SIZE]
+    write('text', start_record(9, start) + 4 * step + STEP_SIZE * b'<')
     expect_page('text in the form of a trace', page_of('text'), steps=4, wrong=['1'])
-    write('text', struct.pack('<HHI', 184, 1, 9) + start + 4 * step + step[:-1])
+    write('text', start_record(9, start) + 4 * step + step[:-1])
     expect_page('the same, cut', page_of('text'), steps=4, wrong=['1'])
-    write('text', struct.pack('<HHI', 184, 1, 3) + start + 4 * step)
+    write('text', start_record(3, start) + 4 * step)
     expect_page('the same, with more Steps than it counts', page_of('text'), steps=3, wrong=['1'])
 
 

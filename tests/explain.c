@@ -110,10 +110,10 @@ static void damaged(struct chance *chance, enum damage damage)
 /* A wrong length is BAD_SIZE and writes nothing; the right one writes its 24 bytes alone. */
 static void lengths(const uint8_t *honest)
 {
-    uint8_t room[202], guards[sizeof room];
+    uint8_t room[1 + LONGEST_TRIED + 1], guards[sizeof room];
 
     memset(guards, GUARD, sizeof guards);
-    for (size_t length = 0; length <= 200; length++) {
+    for (size_t length = 0; length <= LONGEST_TRIED; length++) {
         const bool is_right = length == POMURICA_EXPLANATION_SIZE;
         const size_t written = is_right ? length : 0;
         uint32_t number;

@@ -7,6 +7,11 @@
 
 #include <stdbool.h>
 
+/* A buffer is lent with every length up to this, where every length is tried. */
+enum {
+    LONGEST_TRIED = 200
+};
+
 /* Closes the group before, if any, and opens one. */
 void group(const char *name);
 

@@ -3,6 +3,7 @@ import html.parser
 import re
 import struct
 
+from records import BLOCK_SIZE, PLACES, STEP_BLOCK
 from sentences import NUMBER, REGISTERS, SAID, any_of
 
 # The only elements that a page is made of.
@@ -32,7 +33,7 @@ def may_be(patterns, name, text):
 
 def changed_words(trace, place):
     """The rows that the page has to have for the Step at a place that is not wrong."""
-    before, after = (struct.unpack_from('<44I', trace, at) for at in (place - 176, place + 24))
+    before, after = (struct.unpack_from(f'<{PLACES}I', trace, at) for at in (place - BLOCK_SIZE, place + STEP_BLOCK))
     changed = zip(REGISTERS, before, after)
     return [[name, f'0x{old:08X}', f'0x{new:08X}'] for name, old, new in changed if old != new]
 

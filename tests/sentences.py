@@ -15,13 +15,15 @@ NUMBER, COUNT, BYTE, WORD = '[0-9]+', '[0-9]{1,3}(,[0-9]{3})*', '0x[0-9A-F]{2}',
 ANSWER = f'{NUMBER} ' + any_of(*'DONE BAD_SIZE BAD_MODE BAD_STATE BAD_EVENT NOT_HERE NO_REGISTER NO_RIGHT SHORT BAD_RECORD '
                                'BAD_COUNT WRONG_STEP TRAILING UNKNOWN'.split())
 REGISTER = any_of(*REGISTERS)
+BANKED = any_of(*REGISTERS[:REGISTERS.index('CPSR')], r'no register \(R [01] SYSm 0x[01][0-9A-F]\)',
+                rf'no register \(A {NUMBER}, above 63\)')
 RECORD = any_of('the Start', 'a Step', 'the End')
 MODE = any_of('User', 'FIQ', 'IRQ', 'Supervisor', 'Monitor', 'Abort', 'Hyp', 'Undefined', 'System')
 LINE = any_of('SError', 'FIQ', 'IRQ', 'virtual FIQ', 'virtual IRQ')
 EVENT = any_of('Undefined Instruction', 'SVC', 'SMC', 'HVC', 'Hyp Trap', 'Monitor Trap',
                '(external )?(Prefetch|Data) Abort( of stage 2)?',
                'interrupt check', 'interrupt check, no line', f'interrupt check, lines {LINE}( and {LINE})*',
-               f'banked (read|write of {WORD}), R {NUMBER} SYSm {BYTE}',
+               f'banked (read of|write of {WORD} to) {BANKED}',
                f'note: {REGISTER} becomes {WORD}', f'note on place {NUMBER}, which is none',
                f'event of code {NUMBER}, which is none')
 STATE = (any_of(f'(Secure|Non-secure) {MODE}', 'Monitor with NS [01]', f'mode {BYTE}, which is none') +

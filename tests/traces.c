@@ -10,12 +10,9 @@ const char *const DAMAGE_NAMES[DAMAGES] = {
     "one bit flipped", "wrong count", "wrong head", "trailing bytes", "rubbish",
 };
 
-/* The trace (document 01): sizes, kinds, and where a record's words lie. */
+/* The trace (document 01): kinds, and where a record's words lie. */
 enum {
-    HEAD_SIZE = 4,
-    START_SIZE = 184, START_KIND = 1,
-    STEP_SIZE = 200, STEP_KIND = 2,
-    END_SIZE = 8, END_KIND = 3,
+    START_KIND = 1, STEP_KIND = 2, END_KIND = 3,
     COUNT_AT = 4,
     START_BLOCK_AT = 8,
     EVENT_AT = 4, ANSWER_AT = 16, STEP_BLOCK_AT = 24,

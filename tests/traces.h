@@ -11,6 +11,11 @@
 #include <stddef.h>
 #include <stdint.h>
 
+/* The sizes of records (document 01). */
+enum {
+    HEAD_SIZE = 4, START_SIZE = 184, STEP_SIZE = 200, END_SIZE = 8
+};
+
 /* What is done to an honest trace. */
 enum damage {
     HONEST,
@@ -36,10 +41,10 @@ struct expected {
 /* The most Steps, and bytes, of a trace that make_trace makes. */
 enum {
     MADE_STEPS = 24,
-    MADE_SIZE = 2 * (184 + MADE_STEPS * 200 + 8)
+    MADE_SIZE = 2 * (START_SIZE + MADE_STEPS * STEP_SIZE + END_SIZE)
 };
 
-/* An honest trace of n Steps; gives its length, 192 + 200 * n. */
+/* An honest trace of n Steps; gives its length. */
 size_t record_trace(struct chance *chance, uint32_t n, uint8_t *trace);
 
 /* A trace of chance, damaged so; gives its length. */

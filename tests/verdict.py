@@ -2,16 +2,19 @@
 """verdict.py SCRIPT SAMPLES: tries the program `verdict` as a user does, through its script.
 
 Worked case l, every sample against the line the console prints for it, input in pieces, around the limit of 65,536 bytes and
-far above it, and reads that fail. Ends with `N passed, M failed`.
+far above it, reads that fail, and a build that does. Ends with `N passed, M failed`.
 """
 import os
 import re
+import shutil
 import subprocess
 import sys
 import tempfile
 
+sys.dont_write_bytecode = True
+from records import SHORTEST, length_of  # noqa: E402
+
 SCRIPT, SAMPLES = (os.path.abspath(path) for path in sys.argv[1:3])
-SHORTEST = b'\xb8\0\1\0' + bytes(180) + b'\x08\0\3\0' + bytes(4)
 LIMIT = 65536
 results = []
 
@@ -40,7 +43,7 @@ def verdict_of(line):
     if refused := re.match(r'refused (\d+) \S+ at byte (\d+) after (\d+) Steps', said):
         return name, '{} {} {}\n'.format(*refused.groups())
     steps = int(re.match(r'accepted, (\d+) Steps', said)[1])
-    return name, f'0 {192 + 200 * steps} {steps}\n'
+    return name, f'0 {length_of(steps)} {steps}\n'
 
 
 def try_samples():
@@ -64,8 +67,8 @@ def try_input():
         expect('a pipe in pieces of one byte', piped(['dd', 'if=' + file.name, 'bs=1', 'status=none']), b'0 192 0\n')
         expect('a slow pipe', piped(['sh', '-c', f"head -c 100 '{file.name}'; sleep 1; tail -c +101 '{file.name}'"]),
                b'0 192 0\n')
-    expect('65,536 bytes are judged', run(input=SHORTEST + bytes(LIMIT - 192)), b'12 192 0\n')
-    expect('one more is too long', run(input=SHORTEST + bytes(LIMIT - 191)), b'TOO LONG\n')
+    expect('65,536 bytes are judged', run(input=SHORTEST + bytes(LIMIT - len(SHORTEST))), b'12 192 0\n')
+    expect('one more is too long', run(input=SHORTEST + bytes(LIMIT + 1 - len(SHORTEST))), b'TOO LONG\n')
     expect('megabytes in a pipe', piped(['head', '-c', '50000000', '/dev/zero']), b'TOO LONG\n')
     expect('input without end', run('/dev/zero'), b'TOO LONG\n')
 
@@ -87,9 +90,27 @@ def try_trouble():
     expect('no more than 65,537 bytes are read', (0, read), LIMIT + 1)
 
 
+def try_build():
+    """In a project that cannot be proved, by an rt that refuses it, nothing is judged: the kit's script tells why."""
+    with tempfile.TemporaryDirectory() as room:
+        for folder in ('tools', 'crates', 'bin'):
+            os.mkdir(os.path.join(room, folder))
+        root = os.path.dirname(SCRIPT)
+        for name in ('verdict', 'crates.txt', 'tools/kit.sh'):
+            shutil.copy(os.path.join(root, name), os.path.join(room, name))
+        with open(os.path.join(room, 'bin/rt'), 'w', encoding='utf-8') as file:
+            file.write(f'#!/bin/sh\n[ "$1" != doc ] || exec {shutil.which("rt")} doc\necho refused; exit 1\n')
+        os.chmod(file.name, 0o755)
+        told = subprocess.run([os.path.join(room, 'verdict')], input=SHORTEST, capture_output=True, check=False,
+                              env={**os.environ, 'PATH': f'{room}/bin:{os.environ["PATH"]}'})
+    expect('a build that fails', (told.returncode, told.stdout), b'', 1)
+    expect('and what is told of it', (0, told.stderr.splitlines()[-2:]), [b'refused', b'verdict: could not be built'])
+
+
 try_case_l()
 try_samples()
 try_input()
 try_trouble()
+try_build()
 print(f'{results.count(True)} passed, {results.count(False)} failed')
 sys.exit(0 if all(results) else 1)

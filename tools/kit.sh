@@ -10,8 +10,9 @@ target=x86_64-unknown-linux-gnu
 archive=$root/target/staticlib/libconsole.a
 built=$root/target/host
 
-# The console program, which both ./console and ./test build.
-console_sources='host/console.c host/tell.c host/page.c host/timeline.c host/listing.c host/phrases.c'
+# The console program, which both ./console and ./test build; of its files, those of the page.
+page_sources='host/page.c host/timeline.c host/picture.c host/columns.c host/listing.c host/count.c'
+console_sources="host/console.c host/tell.c $page_sources host/phrases.c"
 
 emulator=
 [ ! -x "$tools/bin/qemu-x86_64" ] || emulator=$tools/bin/qemu-x86_64
@@ -83,11 +84,16 @@ build() {
     mv "$built/$program.new" "$built/$program"
 }
 
-# run PROGRAM [ARGUMENT...]: what build built; its exit status passes through.
+# start FILE [ARGUMENT...]: a program for x86-64, by its path; its exit status passes through.
+start() {
+    $emulator "$tools/lib/ld-linux-x86-64.so.2" --library-path "$tools/lib" "$@"
+}
+
+# run PROGRAM [ARGUMENT...]: what build built.
 run() {
     program=$1
     shift
-    $emulator "$tools/lib/ld-linux-x86-64.so.2" --library-path "$tools/lib" "$built/$program" "$@"
+    start "$built/$program" "$@"
 }
 
 # build_native PROGRAM SOURCE...: a C program for this machine, with second/ behind the same header in place of the archive,
@@ -112,4 +118,24 @@ is_fresh() {
 make_archive() {
     is_fresh "$archive" crates.txt crates && return
     (cd "$root" && rt staticlib console) && touch "$archive"
+}
+
+# prepare NAME COMMAND...: what a script does before its own work where something changed. Says so on standard error, with
+# dots while it lasts; what the command prints is shown, its end, only where it fails.
+prepare() {
+    name=$1
+    shift
+    log=$(mktemp) || return
+    say "$name: proving and building, a few minutes the first time"
+    # The dots end with the script too, also when that is interrupted.
+    while kill -0 $$ 2>/dev/null; do printf . >&2; sleep 2 >/dev/null 2>&1; done &
+    dots=$!
+    prepared=yes
+    "$@" >"$log" 2>&1 || prepared=
+    kill $dots
+    wait $dots 2>/dev/null
+    echo >&2
+    [ -n "$prepared" ] || { tail -n 20 "$log" >&2; say "$name: could not be built"; }
+    rm -f "$log"
+    [ -n "$prepared" ]
 }

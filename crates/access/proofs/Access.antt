@@ -12,7 +12,7 @@ use Rattle.state.specs.Place.{PLACES, BLOCK-SIZE, NO-PLACE, CPSR, SCR}
 use Rattle.state.specs.State.{fault}
 use Rattle.banked.specs.Cell.{cell}
 use Rattle.banked.specs.Right.{right}
-use Rattle.rules.specs.Event.{BANKED-READ, BANKED-WRITE, badEvent}
+use Rattle.rules.specs.Event.{BANKED-READ, BANKED-WRITE, CELL-VALUES, badEvent}
 use Rattle.rules.specs.Parts.{Told, Carried}
 use Rattle.rules.specs.Step.{Action, Refuse, Read, Put, action}
 use Rattle.rules.specs.Verdict.{answerFor, refusedWith}
@@ -45,7 +45,8 @@ pub record Ruled (p cpsr scr : ℕ) (x y : Action) : Type 0 where
 
 -- it does, where a cell names p, by the words of the block that the right goes by
 module _ (b : List ℕ) (a : ℕ) {p cpsr scr : ℕ} (e : p ≡ cell a) (ec : cpsr ≡ word b CPSR) (es : scr ≡ word b SCR) where
-  ruled : (x y : Action) → a < 64 → accessed (cell a) (right (cell a) (word b CPSR) (word b SCR)) x ≡ y → Ruled p cpsr scr x y
+  ruled : (x y : Action) → a < CELL-VALUES → accessed (cell a) (right (cell a) (word b CPSR) (word b SCR)) x ≡ y
+      → Ruled p cpsr scr x y
   unfolding accessed
   ruled x y l f = record {
     inside = λ h. let i = inside-registers a l (ne-eqb (cell a) NO-PLACE (there h)) in omega (arith, e);

@@ -35,6 +35,7 @@ module _ (b : List ℕ) (a v : ℕ) where
       → judgedPut HCR v n ≡ Noted
   on-hcr e ec es f = rw (e, ← ec, ← es, f)
 
-  pub on-another : (a ≡ CPSR → ⊥) → (a ≡ SCR → ⊥) → (a ≡ HCR → ⊥) → fault b ≡ DONE → judgedPut a v DONE ≡ Noted
+  pub on-another : (a ≡ CPSR → ⊥) → (a ≡ SCR → ⊥) → (a ≡ HCR → ⊥) → fault b ≡ DONE
+      → judgedPut a v DONE ≡ Noted
   unfolding fault
   on-another c s h good = rw (ne-eqb a CPSR c, ne-eqb a SCR s, ne-eqb a HCR h) (ap (judgedPut a v) (sym good))

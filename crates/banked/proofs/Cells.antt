@@ -1,16 +1,16 @@
 -- The 64 numbers of the code are the cells of Tables F5-116 and F5-117, and no two cells name one place: tests over the
 -- whole table.
 use mathlib.Core.Path.{_≡_, refl}
-use mathlib.Core.Bool.{Bool, true, false, not, _&&_, _||_}
+use mathlib.Core.Bool.{Bool, not, _&&_}
 use mathlib.Core.List.{List, [], _∷_}
-use Prim.Native.Nat.{ℕ, _/_, _%_, _<_, _≤_}
+use Prim.Native.Nat.{ℕ, _/_, _<_, _≤_}
 use native.Mathlib.Omega.{arith}
 use lib.Dec.{eqb, ltb}
-use lib.ListN.{getD, length, List·getD-eq-default}
+use lib.ListN.{getD, List·getD-eq-default}
 use borrow.Author.Tests.{eqb-true, eq-eqb, ne-eqb, ltb-true}
-use Rattle.state.specs.Place.{NO-PLACE}
-use Rattle.state.proofs.Test.{everyEntry, at-entry, everyBelow, at-below, implies, implied, both}
-use Rattle.banked.specs.Cell.{cell, F5-116, F5-117}
+use Rattle.state.specs.Place.{NO-PLACE, CPSR}
+use Rattle.state.proofs.Test.{at-entry, everyBelow, at-below, implies, implied, both}
+use Rattle.banked.specs.Cell.{CELL-VALUES, cell, F5-116, F5-117}
 
 abbrev pub cells : List ℕ
 cells =
@@ -24,32 +24,33 @@ cells =
     ∷ 255 ∷ 255 ∷ 255 ∷ 255 ∷ 31 ∷ 255 ∷ 32 ∷ 255
     ∷ []
 
-pub cells-right : (a : ℕ) → a < 64 → getD cells a 0 ≡ cell a
+pub cells-right : (a : ℕ) → a < CELL-VALUES → getD cells a 0 ≡ cell a
 unfolding cell
 cells-right a h = eqb-true (getD cells a 0) (cell a) (at-entry cells (λ a x. eqb x (cell a)) refl a h)
 
 -- past the 64 cells there is no register
-pub cell-out : (a : ℕ) → 64 ≤ a → cell a ≡ NO-PLACE
+pub cell-out : (a : ℕ) → CELL-VALUES ≤ a → cell a ≡ NO-PLACE
 unfolding cell
 cell-out a h =
     let e = List·getD-eq-default (F5-116 ∷ F5-117 ∷ []) [] {n = a / 32} (omega arith) in
     rw e
 
--- a cell is a mark or one of the 33 registers
-pub cell-inside : (a : ℕ) → a < 64 → (cell a ≡ NO-PLACE → ⊥) → cell a < 33
+-- a cell is a mark or a register: the registers are the places before CPSR
+pub cell-inside : (a : ℕ) → a < CELL-VALUES → (cell a ≡ NO-PLACE → ⊥) → cell a < CPSR
 unfolding cell
 cell-inside a h n =
-    ltb-true (cell a) 33
-    (implied (not (eqb (cell a) NO-PLACE)) (ltb (cell a) 33)
-    (at-below 64 (λ a. implies (not (eqb (cell a) NO-PLACE)) (ltb (cell a) 33)) refl a h)
+    ltb-true (cell a) CPSR
+    (implied (not (eqb (cell a) NO-PLACE)) (ltb (cell a) CPSR)
+    (at-below CELL-VALUES (λ a. implies (not (eqb (cell a) NO-PLACE)) (ltb (cell a) CPSR)) refl a h)
     (rw (ne-eqb (cell a) NO-PLACE n)))
 
--- statement 6: no two cells name one place
-pub cells-apart : (a a′ : ℕ) → a < 64 → a′ < 64 → (cell a ≡ NO-PLACE → ⊥) → cell a ≡ cell a′ → a ≡ a′
+-- no two cells name one place
+pub cells-apart : (a a′ : ℕ) → a < CELL-VALUES → a′ < CELL-VALUES → (cell a ≡ NO-PLACE → ⊥) → cell a ≡ cell a′
+    → a ≡ a′
 unfolding cell
 cells-apart a a′ h h′ n e =
     let test : ℕ → ℕ → Bool = λ a a′. implies (not (eqb (cell a) NO-PLACE) && eqb (cell a) (cell a′)) (eqb a a′) in
     eqb-true a a′
     (implied (not (eqb (cell a) NO-PLACE) && eqb (cell a) (cell a′)) (eqb a a′)
-    (at-below 64 (test a) (at-below 64 (λ a. everyBelow 64 (test a)) refl a h) a′ h′)
+    (at-below CELL-VALUES (test a) (at-below CELL-VALUES (λ a. everyBelow CELL-VALUES (test a)) refl a h) a′ h′)
     (both {a = not (eqb (cell a) NO-PLACE)} (rw (ne-eqb (cell a) NO-PLACE n)) (eq-eqb (cell a) (cell a′) e)))

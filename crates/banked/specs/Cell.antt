@@ -4,7 +4,14 @@
 use mathlib.Core.List.{List, [], _∷_}
 use Prim.Native.Nat.{ℕ, _/_, _%_}
 use lib.ListN.{getD}
-use Rattle.state.specs.Place.{NO-PLACE, R8-usr, R9-usr, R10-usr, R11-usr, R12-usr, SP-usr, LR-usr, R8-fiq, R9-fiq, R10-fiq, R11-fiq, R12-fiq, SP-fiq, LR-fiq, LR-irq, SP-irq, LR-svc, SP-svc, LR-abt, SP-abt, LR-und, SP-und, LR-mon, SP-mon, ELR-hyp, SP-hyp, SPSR-fiq, SPSR-irq, SPSR-svc, SPSR-abt, SPSR-und, SPSR-mon, SPSR-hyp}
+use Rattle.state.specs.Place.{NO-PLACE, R8-usr, R9-usr, R10-usr, R11-usr, R12-usr, SP-usr, LR-usr, R8-fiq, R9-fiq}
+use Rattle.state.specs.Place.{R10-fiq, R11-fiq, R12-fiq, SP-fiq, LR-fiq, LR-irq, SP-irq, LR-svc, SP-svc, LR-abt, SP-abt}
+use Rattle.state.specs.Place.{LR-und, SP-und, LR-mon, SP-mon, ELR-hyp, SP-hyp, SPSR-fiq, SPSR-irq, SPSR-svc, SPSR-abt}
+use Rattle.state.specs.Place.{SPSR-und, SPSR-mon, SPSR-hyp}
+
+-- how many there are
+abbrev pub CELL-VALUES : ℕ
+CELL-VALUES = 64
 
 -- a cell that is CONSTRAINED UNPREDICTABLE
 abbrev pub none : ℕ

@@ -6,7 +6,10 @@ use Rattle.state.specs.Choice.{if_then_else_, _is_, _among_}
 use Rattle.state.specs.Field.{mode-field}
 use Rattle.state.specs.Mode.{USER, FIQ, IRQ, SUPERVISOR, MONITOR, ABORT, HYP, UNDEFINED, SYSTEM}
 use Rattle.state.specs.Number.{DONE, NO-RIGHT}
-use Rattle.state.specs.Place.{R8-usr, R9-usr, R10-usr, R11-usr, R12-usr, SP-usr, LR-usr, R8-fiq, R9-fiq, R10-fiq, R11-fiq, R12-fiq, SP-fiq, LR-fiq, LR-irq, SP-irq, LR-svc, SP-svc, LR-abt, SP-abt, LR-und, SP-und, LR-mon, SP-mon, ELR-hyp, SP-hyp, SPSR-fiq, SPSR-irq, SPSR-svc, SPSR-abt, SPSR-und, SPSR-mon, SPSR-hyp}
+use Rattle.state.specs.Place.{R8-usr, R9-usr, R10-usr, R11-usr, R12-usr, SP-usr, LR-usr, R8-fiq, R9-fiq, R10-fiq}
+use Rattle.state.specs.Place.{R11-fiq, R12-fiq, SP-fiq, LR-fiq, LR-irq, SP-irq, LR-svc, SP-svc, LR-abt, SP-abt, LR-und}
+use Rattle.state.specs.Place.{SP-und, LR-mon, SP-mon, ELR-hyp, SP-hyp, SPSR-fiq, SPSR-irq, SPSR-svc, SPSR-abt, SPSR-und}
+use Rattle.state.specs.Place.{SPSR-mon, SPSR-hyp}
 use Rattle.state.specs.State.{secure}
 
 -- the registers of a mode that has some of its own

@@ -1,4 +1,4 @@
-// The worked cases a to k of document 01 ("Numbers to hold against it"), run through the shipped step. Each line is a case
+// The worked cases a to k of document 01 ("Numbers to hold against it"), run through `step_event`. Each line is a case
 // in the paper's notation; what it must say stands in the file stdout, written by hand from the paper.
 ghost use Prim.Native.Nat.{_≤_, _<_};
 use libc::STDOUT_FILENO;

@@ -6,7 +6,7 @@ use lib.ListN.{length}
 use Rattle.words.specs.Word.{le32}
 use Rattle.state.specs.Choice.{if_then_else_, _is_}
 use Rattle.state.specs.Number.{BAD-SIZE}
-use Rattle.trace.specs.declared.Report.{Report}
+use Rattle.trace.specs.declared.check.Report.{Report}
 use Rattle.trace.specs.Layout.{layout01}
 use Rattle.trace.specs.Report.{report}
 

@@ -27,7 +27,7 @@ pub extern "C" fn pomurica_check(trace: &[u8], report: &mut [u8]) -> u32
     if report.len() != REPORT_SIZE {
         return number::BAD_SIZE;
     }
-    let found = trace::check(trace);
+    let found = trace::check::check(trace);
     put_word(report, NUMBER, found.number);
     put_word(report, PLACE, found.place);
     put_word(report, STEPS, found.steps);

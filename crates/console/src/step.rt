@@ -12,8 +12,10 @@ pub extern "C" fn pomurica_step(
     answer: &mut [u8],
 ) -> u32
     ensures number { λ r. ⌜ r ≡ numberReturned (now (block .entry)) (record { code = code; a = a; b = b }) (now (answer .entry)) ⌝ }
-    ensures leaves { λ _. ⌜ now (block .exit) ≡ blockLeft (now (block .entry)) (record { code = code; a = a; b = b }) (now (answer .entry)) ⌝ }
-    ensures answers { λ _. ⌜ now (answer .exit) ≡ answerLeft (now (block .entry)) (record { code = code; a = a; b = b }) (now (answer .entry)) ⌝ }
+    ensures leaves { λ _. ⌜ now (block .exit)
+        ≡ blockLeft (now (block .entry)) (record { code = code; a = a; b = b }) (now (answer .entry)) ⌝ }
+    ensures answers { λ _. ⌜ now (answer .exit)
+        ≡ answerLeft (now (block .entry)) (record { code = code; a = a; b = b }) (now (answer .entry)) ⌝ }
 {
     machine::step::step(block, code, a, b, answer)
 }

@@ -1,23 +1,22 @@
 -- What an entry leaves, read back word by word: once, over the target. "No other word changes."
-use mathlib.Core.Path.{_≡_, refl, sym, ap, _∙_}
-use mathlib.Core.Bool.{Bool, true, false, not, _&&_, _||_}
-use mathlib.Core.List.{List, [], _∷_}
-use Prim.Native.Nat.{ℕ, _+_, _*_, _/_, _%_, _^_, _<_, _≤_}
+use mathlib.Core.Path.{_≡_, refl, sym, _∙_}
+use mathlib.Core.Bool.{Bool, true, false, not, _||_}
+use mathlib.Core.List.{List}
+use Prim.Native.Nat.{ℕ, _+_, _*_, _/_, _%_, _^_, _<_}
 use native.Mathlib.Omega.{arith}
 use lib.Dec.{eqb, ltb, lit<}
 use lib.ListN.{length}
 use borrow.Author.Tests.{eqb-true, eqb-false, ltb-true, not-true}
-use Rattle.words.specs.Word.{word, put, Bytes}
-use Rattle.words.proofs.Laws.{length-put, word-put-same, word-put-other, spelt-fits}
-use Rattle.state.specs.Choice.{if_then_else_, _is_, _among_}
-use Rattle.state.specs.Field.{bit, bits, flag, without, mode-field, CPSR-A, CPSR-I, CPSR-F, SCR-NS, SCTLR-EE, SCTLR-TE}
-use Rattle.state.specs.Mode.{HYP, MONITOR, targets, isTarget, spsrPlace, lrPlace}
-use Rattle.state.specs.Place.{PLACES, BLOCK-SIZE, CPSR, PC, SCR, HCR}
+use Rattle.words.specs.Word.{word, put}
+use Rattle.words.proofs.Laws.{length-put, word-put-same, word-put-other}
+use Rattle.state.specs.Choice.{_is_}
+use Rattle.state.specs.Field.{bit, bits, flag, mode-field, CPSR-A, CPSR-I, CPSR-F, SCTLR-EE, SCTLR-TE}
+use Rattle.state.specs.Mode.{targets, isTarget, spsrPlace, lrPlace}
+use Rattle.state.specs.Place.{BLOCK-SIZE, CPSR, PC, SCR}
 use Rattle.state.proofs.Laws.{flag-moved}
 use Rattle.state.proofs.Test.{at-one}
 use Rattle.entry.specs.Enter.{setsA, setsI, setsF, masksAfter, cpsrAfter}
-use Rattle.entry.specs.Enter.{nsCleared, controlPlace, vectorBase, vector, written, entered}
-use Rattle.entry.specs.Route.{wrap}
+use Rattle.entry.specs.Enter.{controlPlace, vectorBase, vector, written}
 
 -- ---- the new CPSR word fits, has the target's mode, and has bits 24 to 21 clear
 
@@ -162,8 +161,8 @@ module _ (b : List ℕ) (cpsr to offset link : ℕ) (target : isTarget to ≡ tr
       ∙ word-put-same b (spsrPlace to) cpsr (omega arith) h
 
   -- any other word stays
-  pub written-other : (q : ℕ) → (spsrPlace to ≡ q → ⊥) → (lrPlace to ≡ q → ⊥) → (CPSR ≡ q → ⊥) → (PC ≡ q → ⊥)
-      → word (written b cpsr to offset link) q ≡ word b q
+  pub written-other : (q : ℕ) → (spsrPlace to ≡ q → ⊥) → (lrPlace to ≡ q → ⊥) → (CPSR ≡ q → ⊥)
+      → (PC ≡ q → ⊥) → word (written b cpsr to offset link) q ≡ word b q
   unfolding written
   written-other q s l c p =
       word-put-other b3 PC start q p

@@ -2,24 +2,23 @@
 -- to a mode that may stand where it goes leaves a good block: once, over the target.
 use mathlib.Core.Path.{_≡_, refl, sym, ap, _∙_}
 use mathlib.Core.Bool.{Bool, true, false, not, _&&_, _||_, and-true, and-false}
-use mathlib.Core.List.{List, [], _∷_}
-use Prim.Native.Nat.{ℕ, _+_, _*_, _/_, _%_, _^_, _<_}
+use mathlib.Core.List.{List}
+use Prim.Native.Nat.{ℕ, _*_, _/_, _%_, _^_, _<_}
 use native.Mathlib.Omega.{arith}
-use lib.Dec.{eqb}
 use lib.ListN.{length}
-use borrow.Author.Tests.{eqb-true, eq-eqb, ne-eqb}
+use borrow.Author.Tests.{eq-eqb, ne-eqb}
 use Rattle.words.specs.Word.{word, put, Bytes}
-use Rattle.words.proofs.Laws.{length-put, bytes-put, word-put-same, word-put-other, spelt-fits}
-use Rattle.state.specs.Choice.{if_then_else_, _is_, _among_}
+use Rattle.words.proofs.Laws.{length-put, word-put-same, word-put-other, spelt-fits}
+use Rattle.state.specs.Choice.{if_then_else_, _is_}
 use Rattle.state.specs.Field.{bits, without, mode-field, SCR-NS, SCR-EA, HCR-TSC, HCR-TGE}
 use Rattle.state.specs.Mode.{USER, MONITOR, HYP, modes, known, el1, isTarget, spsrPlace, lrPlace}
 use Rattle.state.specs.Number.{DONE}
 use Rattle.state.specs.Place.{BLOCK-SIZE, CPSR, PC, SCR, HCR}
-use Rattle.state.specs.State.{fault, faultOf}
-use Rattle.state.proofs.Good.{stands, good-by-parts, Good, parts-of-good}
+use Rattle.state.specs.State.{fault}
+use Rattle.state.proofs.Good.{stands, good-by-parts, Good}
 use Rattle.state.proofs.Test.{and-left, and-right, both, implies, implied, everyBit, at-bit, everyOf, at-one}
-use Rattle.entry.specs.Code.{UNDEFINED-INSTRUCTION, SVC, SMC, HVC, PREFETCH-ABORT, DATA-ABORT, HYP-TRAP, MONITOR-TRAP}
-use Rattle.entry.specs.Code.{isSynchronous, isAbort, isGeneral, external, stage2}
+use Rattle.entry.specs.Code.{SMC, HVC, HYP-TRAP, MONITOR-TRAP, synchronous-codes, isSynchronous, isAbort}
+use Rattle.entry.specs.Code.{isGeneral, external, stage2}
 use Rattle.entry.specs.Enter.{nsCleared, cpsrAfter, controlPlace, vectorBase, vector, written, entered}
 use Rattle.entry.specs.Route.{ownMode, toMonitor, toHyp, target, notHere}
 use Rattle.entry.proofs.Entered.{after-mode, after-clear, its-number, spsr-low, lr-low}
@@ -71,14 +70,11 @@ abbrev keeps : ℕ → ℕ → Bool → Bool → Bool → Bool → Bool → Bool
 keeps m code ns ea tsc tge ext two =
     implies (stands m ns tge && not (notHereB code m ns two)) (mayStand m (targetB code m ns ea tsc tge ext two) ns tge)
 
-abbrev codes : List ℕ
-codes = UNDEFINED-INSTRUCTION ∷ SVC ∷ SMC ∷ HVC ∷ PREFETCH-ABORT ∷ DATA-ABORT ∷ HYP-TRAP ∷ MONITOR-TRAP ∷ []
-
 abbrev everywhere : ℕ → ℕ → Bool
 everywhere m code =
     everyBit (λ ns. everyBit (λ ea. everyBit (λ tsc. everyBit (λ tge. everyBit (λ ext. everyBit (keeps m code ns ea tsc tge ext))))))
 
-tried : everyOf modes (λ m. everyOf codes (everywhere m)) ≡ true
+tried : everyOf modes (λ m. everyOf synchronous-codes (everywhere m)) ≡ true
 unfolding known el1
 tried = refl
 
@@ -93,8 +89,8 @@ target-stands code a cpsr scr hcr g c n =
     let tge = HCR-TGE hcr in
     let ext = external a in
     let two = stage2 a in
-    let at-mode = at-one modes (λ m. everyOf codes (everywhere m)) tried m (g .known-mode) in
-    let at : everywhere m code ≡ true = at-one codes (everywhere m) at-mode code c in
+    let at-mode = at-one modes (λ m. everyOf synchronous-codes (everywhere m)) tried m (g .known-mode) in
+    let at : everywhere m code ≡ true = at-one synchronous-codes (everywhere m) at-mode code c in
     let k : keeps m code ns ea tsc tge ext two ≡ true =
     at-bit (keeps m code ns ea tsc tge ext)
     (at-bit (λ ext. everyBit (keeps m code ns ea tsc tge ext))
@@ -191,8 +187,8 @@ module _ (b : List ℕ) (to : ℕ) (size : length b ≡ BLOCK-SIZE) (by : Bytes 
         (λ e. omega arith)
 
     -- no other word changes
-    pub other-word : (q : ℕ) → (spsrPlace to ≡ q → ⊥) → (lrPlace to ≡ q → ⊥) → (CPSR ≡ q → ⊥) → (PC ≡ q → ⊥) → (SCR ≡ q → ⊥)
-        → word l q ≡ word b q
+    pub other-word : (q : ℕ) → (spsrPlace to ≡ q → ⊥) → (lrPlace to ≡ q → ⊥) → (CPSR ≡ q → ⊥)
+        → (PC ≡ q → ⊥) → (SCR ≡ q → ⊥) → word l q ≡ word b q
     other-word q s r p v n =
         at q ∙ written-other c (word b CPSR) to offset link tgt cleared-size q s r p v ∙ cleared-other q n
 

@@ -7,7 +7,7 @@ use lib.Bits.{bitOr}
 use lib.Dec.{eqb, ltb}
 use borrow.Author.Tests.{eqb-true, ltb-true}
 use Rattle.state.specs.Field.{bit, flag}
-use Rattle.state.proofs.Test.{and-left, and-right, everyBelow, at-below, everyBit, at-bit}
+use Rattle.state.proofs.Test.{and-left, and-right, at-below, everyBit, at-bit}
 use Rattle.entry.specs.Enter.{setsA, setsI, setsF, masksAfter}
 use Rattle.entry.specs.Parts.{setsNumber}
 

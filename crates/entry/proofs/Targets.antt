@@ -1,7 +1,7 @@
 -- An entry goes to a mode with a saved state of its own, at an offset of the vector table.
 use mathlib.Core.Path.{_≡_, refl}
-use mathlib.Core.Bool.{Bool, true, false, not, _&&_, _||_}
-use mathlib.Core.List.{List, [], _∷_}
+use mathlib.Core.Bool.{Bool, true, false, not, _&&_}
+use mathlib.Core.List.{[], _∷_}
 use Prim.Native.Nat.{ℕ, _<_}
 use lib.Dec.{lit<}
 use Rattle.state.specs.Choice.{if_then_else_, _is_, _among_}
@@ -11,7 +11,7 @@ use Rattle.entry.specs.Code.{UNDEFINED-INSTRUCTION, SVC, SMC, HVC, PREFE
 use Rattle.entry.specs.Route.{toMonitor, toHyp, ownMode, target, ownOffset, offsetTo, offset}
 
 -- of two, whichever the test chooses
-pub chosen : (P : ℕ → Type 0) (t : Bool) {x y : ℕ} → P x → P y → P (if t then x else y)
+pub chosen : {A : Type 0} (P : A → Type 0) (t : Bool) {x y : A} → P x → P y → P (if t then x else y)
 chosen P true p q = p
 chosen P false p q = q
 
@@ -42,9 +42,10 @@ offset-to-small to from own h = chosen IsOffset (to is HYP && not (from is HYP))
 
 own-small : (code : ℕ) → IsOffset (ownOffset code)
 own-small code =
-    chosen IsOffset (code among (UNDEFINED-INSTRUCTION ∷ MONITOR-TRAP ∷ [])) (lit< tt)
+    chosen IsOffset (code is UNDEFINED-INSTRUCTION) (lit< tt)
+    (chosen IsOffset (code is MONITOR-TRAP) (lit< tt)
     (chosen IsOffset (code among (SVC ∷ SMC ∷ HVC ∷ [])) (lit< tt)
-    (chosen IsOffset (code is PREFETCH-ABORT) (lit< tt) (chosen IsOffset (code is DATA-ABORT) (lit< tt) (lit< tt))))
+    (chosen IsOffset (code is PREFETCH-ABORT) (lit< tt) (chosen IsOffset (code is DATA-ABORT) (lit< tt) (lit< tt)))))
 
 pub offset-small : (code a cpsr scr hcr : ℕ) → IsOffset (offset code a cpsr scr hcr)
 unfolding offset

@@ -1,6 +1,7 @@
--- The codes of the synchronous events and the bits of an abort's A (document 01, "Events").
+-- The codes of the events and the bits of an abort's A (document 01, "Events"). A code has its number here, and its place in
+-- the list of the synchronous ones or of the others: all that asks which codes there are goes by these lists.
 use mathlib.Core.Bool.{Bool}
-use mathlib.Core.List.{List, [], _∷_}
+use mathlib.Core.List.{List, [], _∷_, _++_}
 use Prim.Native.Nat.{ℕ}
 use Rattle.state.specs.Choice.{_among_}
 use Rattle.state.specs.Field.{bit}
@@ -29,11 +30,34 @@ HYP-TRAP = 7
 abbrev pub MONITOR-TRAP : ℕ
 MONITOR-TRAP = 8
 
--- codes 1 to 8
+abbrev pub INTERRUPT-CHECK : ℕ
+INTERRUPT-CHECK = 9
+
+abbrev pub BANKED-READ : ℕ
+BANKED-READ = 10
+
+abbrev pub BANKED-WRITE : ℕ
+BANKED-WRITE = 11
+
+abbrev pub NOTE : ℕ
+NOTE = 12
+
+abbrev pub synchronous-codes : List ℕ
+synchronous-codes =
+    UNDEFINED-INSTRUCTION ∷ SVC ∷ SMC ∷ HVC ∷ PREFETCH-ABORT ∷ DATA-ABORT ∷ HYP-TRAP ∷ MONITOR-TRAP ∷ []
+
+abbrev pub other-codes : List ℕ
+other-codes = INTERRUPT-CHECK ∷ BANKED-READ ∷ BANKED-WRITE ∷ NOTE ∷ []
+
+-- the codes of the table
+abbrev pub codes : List ℕ
+codes = synchronous-codes ++ other-codes
+
+abbrev pub isKnown : ℕ → Bool
+isKnown code = code among codes
+
 abbrev pub isSynchronous : ℕ → Bool
-isSynchronous code =
-    code
-    among (UNDEFINED-INSTRUCTION ∷ SVC ∷ SMC ∷ HVC ∷ PREFETCH-ABORT ∷ DATA-ABORT ∷ HYP-TRAP ∷ MONITOR-TRAP ∷ [])
+isSynchronous code = code among synchronous-codes
 
 -- "Prefetch Abort, synchronous Data Abort"
 abbrev pub isAbort : ℕ → Bool

@@ -4,7 +4,8 @@ use mathlib.Core.List.{List, [], _∷_}
 use Prim.Native.Nat.{ℕ, _+_}
 use Rattle.words.specs.Word.{word, put}
 use Rattle.state.specs.Choice.{if_then_else_, _is_, _among_}
-use Rattle.state.specs.Field.{bits, flag, without, mode-field, CPSR-A, CPSR-I, CPSR-F, SCR-NS, SCR-IRQ, SCR-FIQ, SCR-EA, SCTLR-V, SCTLR-EE, SCTLR-TE}
+use Rattle.state.specs.Field.{bits, flag, without, mode-field, CPSR-A, CPSR-I, CPSR-F, SCR-NS, SCR-IRQ, SCR-FIQ, SCR-EA}
+use Rattle.state.specs.Field.{SCTLR-V, SCTLR-EE, SCTLR-TE}
 use Rattle.state.specs.Mode.{FIQ, IRQ, SUPERVISOR, MONITOR, ABORT, HYP, UNDEFINED, spsrPlace, lrPlace}
 use Rattle.state.specs.Place.{CPSR, PC, SCR, SCTLR-s, SCTLR-ns, HSCTLR, VBAR-s, VBAR-ns, HVBAR, MVBAR}
 use Rattle.entry.specs.Route.{wrap}

@@ -1,4 +1,5 @@
 pub mod Code
+pub mod Offset
 pub mod Way
 pub mod Route
 pub mod Enter

@@ -6,9 +6,12 @@ use Prim.Native.Nat.{ℕ, _+_, _%_, _^_}
 use Rattle.state.specs.Choice.{if_then_else_, _is_, _among_}
 use Rattle.state.specs.Field.{mode-field, CPSR-T, SCR-EA, HCR-TSC, HCR-TGE}
 use Rattle.state.specs.Mode.{USER, SUPERVISOR, MONITOR, ABORT, HYP, UNDEFINED}
+use Rattle.state.specs.Number.{NOT-HERE}
 use Rattle.state.specs.State.{secure, nsEl1, nsUser}
-use Rattle.entry.specs.Code.{UNDEFINED-INSTRUCTION, SVC, SMC, HVC, PREFETCH-ABORT, DATA-ABORT, HYP-TRAP, MONITOR-TRAP, isSynchronous, isAbort, isGeneral, external, stage2}
-use Rattle.entry.specs.Way.{Way, NotHere, Enter}
+use Rattle.entry.specs.Code.{UNDEFINED-INSTRUCTION, SVC, SMC, HVC, PREFETCH-ABORT, DATA-ABORT, HYP-TRAP}
+use Rattle.entry.specs.Code.{MONITOR-TRAP, isSynchronous, isAbort, isGeneral, external, stage2}
+use Rattle.entry.specs.Offset as offsets
+use Rattle.entry.specs.Way.{Way, Barred, Enter}
 
 -- "All address sums wrap at 2^32"
 abbrev pub wrap : ℕ → ℕ → ℕ
@@ -52,18 +55,19 @@ target code a cpsr scr hcr =
 -- "Offsets"
 abbrev pub ownOffset : ℕ → ℕ
 ownOffset code =
-    if code among (UNDEFINED-INSTRUCTION ∷ MONITOR-TRAP ∷ []) then 0x04 else
-    if code among (SVC ∷ SMC ∷ HVC ∷ []) then 0x08 else
-    if code is PREFETCH-ABORT then 0x0C else
-    if code is DATA-ABORT then 0x10 else
-    0x14
+    if code is UNDEFINED-INSTRUCTION then offsets.UNDEFINED else
+    if code is MONITOR-TRAP then offsets.MONITOR-TRAP else
+    if code among (SVC ∷ SMC ∷ HVC ∷ []) then offsets.CALL else
+    if code is PREFETCH-ABORT then offsets.PREFETCH-ABORT else
+    if code is DATA-ABORT then offsets.DATA-ABORT else
+    offsets.HYP-TRAP
 
 -- "Anything but IRQ and FIQ entering Hyp from another mode uses 0x14"
 abbrev pub offsetTo : ℕ → ℕ → ℕ → ℕ
-offsetTo to from own = if to is HYP && not (from is HYP) then 0x14 else own
+offsetTo to from own = if to is HYP && not (from is HYP) then offsets.HYP-TRAP else own
 
 -- "Next address is PC + 2 for SVC with T 1, else PC + 4. The preferred return is the next address for SVC, HVC and SMC
--- (PC for a trapped SMC), else PC": how far it lies behind the PC
+-- (PC for a trapped SMC), else PC": how far it lies ahead of the PC
 abbrev pub ahead : ℕ → ℕ → ℕ → ℕ → ℕ
 ahead code cpsr scr hcr =
     if trapped code cpsr scr hcr then 0 else
@@ -103,5 +107,5 @@ notHere code a cpsr scr =
 -- what an event comes to; one that is not synchronous has no way of its own
 unfoldable pub way : ℕ → ℕ → ℕ → ℕ → ℕ → ℕ → Way
 way code a cpsr scr hcr pc =
-    if not (isSynchronous code) || notHere code a cpsr scr then NotHere else
+    if not (isSynchronous code) || notHere code a cpsr scr then Barred NOT-HERE else
     Enter (target code a cpsr scr hcr) (offset code a cpsr scr hcr) (link code a cpsr scr hcr pc)

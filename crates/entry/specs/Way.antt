@@ -1,7 +1,7 @@
 -- What a synchronous event or an interrupt comes to (document 01, "Routing").
 use Prim.Native.Nat.{ℕ}
 
--- it cannot happen here, or it enters a mode at an offset, with a word for its return address
+-- it is barred, and refused with this number; or it enters a mode at an offset, with a word for its return address
 pub data Way : Type 0 where
-  NotHere : Way
+  Barred : ℕ → Way
   Enter : ℕ → ℕ → ℕ → Way

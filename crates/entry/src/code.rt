@@ -1,4 +1,4 @@
-// The codes of the synchronous events (document 01, "Events").
+// The codes of the events (document 01, "Events"): 1 to 8 are synchronous.
 pub const UNDEFINED_INSTRUCTION: u32 = 1;
 
 pub const SVC: u32 = 2;
@@ -14,3 +14,11 @@ pub const DATA_ABORT: u32 = 6;
 pub const HYP_TRAP: u32 = 7;
 
 pub const MONITOR_TRAP: u32 = 8;
+
+pub const INTERRUPT_CHECK: u32 = 9;
+
+pub const BANKED_READ: u32 = 10;
+
+pub const BANKED_WRITE: u32 = 11;
+
+pub const NOTE: u32 = 12;

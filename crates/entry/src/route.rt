@@ -1,4 +1,4 @@
-// What the routing of a synchronous event asks (document 01, "Routing"). The event itself enters at once, in `machine`.
+// What the routing of a synchronous event asks (document 01, "Routing"). The event itself enters at once, in `synchronous`.
 ghost use mathlib.Core.Path.{_≡_};
 ghost use mathlib.Core.Bool.{_&&_, _||_};
 ghost use Rattle.entry.specs.Code.{external, stage2};
@@ -25,7 +25,7 @@ pub fn hyp_offset(cpsr: u32, own: u32) -> u32
     if is_hyp(cpsr) { own } else { offset::HYP_TRAP }
 }
 
-// The length of an SVC or an undefined instruction, by T.
+// 2 with T 1, else 4: the length of an SVC, and what the link of Undefined and Monitor Trap has added.
 pub fn narrow_of(cpsr: u32) -> u32
     ensures { λ r. ⌜ r ≡ narrow cpsr ⌝ }
 {

@@ -10,16 +10,18 @@ use lib.Seq.{take-at, drop-at, drop-append-le}
 use Rattle.words.specs.Word.{le32, Bytes}
 use Rattle.rules.specs.declared.event.Event.{Event}
 use Rattle.rules.specs.declared.verdict.Answer.{Answer}
-use Rattle.trace.specs.declared.Report.{Report}
+use Rattle.rules.specs.Run.{runBy}
+use Rattle.trace.specs.declared.check.Report.{Report}
 use Rattle.trace.specs.Layout.{Layout, Lawful, startSize, stepSize, placeOf}
-use Rattle.trace.specs.Published.{head, eventBytes, answerBytes, startRecord, stepShowing, stepRecords, run}
+use Rattle.rules.specs.Step.{answerBytes}
+use Rattle.trace.specs.Published.{head, eventBytes, startRecord, stepShowing, stepRecords, run}
 use Rattle.trace.specs.Report.{stepNumber, report, BAD-COUNT, WRONG-STEP}
 use Rattle.trace.specs.Claims.{startOf, eventsFrom}
 use Rattle.trace.proofs.Determined.{events-back}
 use Rattle.trace.proofs.Outcomes.{Beginning}
 use Rattle.trace.proofs.Own.{Fault, cut, bad, own, start-fault, step-fault, end-fault}
 use Rattle.trace.proofs.Records.{length-run, length-begun, start-block, start-rest}
-use Rattle.trace.proofs.Refusals.{Told, start-told, step-told, end-told, end-faulty, trailing, accepted, told, length-is}
+use Rattle.trace.proofs.Told.{Told, start-told, step-told, end-told, end-faulty, trailing, accepted, told, length-is}
 use Rattle.explain.specs.Explain.{blockBefore}
 
 -- ---- where a wrong Step is
@@ -67,7 +69,7 @@ module _ (L : Layout) (LL : Lawful L) where
   -- a string that ends with the block b, and behind it the Steps of es from b on, end with the block that es lead to
   last-block : (es : List Event) (h b : List ℕ) → length b ≡ L .size
       → drop (length h + stepSize L * length es) (h ++ (b ++ stepRecords L b es)) ≡ run L b es
-  unfolding stepRecords stepShowing run
+  unfolding stepRecords stepShowing runBy
   last-block [] h b l =
       let n : length h ≡ length h + stepSize L * 0 = omega (arith, mul-zero (stepSize L)) in
       ap (λ (t : List ℕ). drop (length h + stepSize L * 0) (h ++ t)) (append-nil b) ∙ drop-at h b _ n
@@ -80,7 +82,7 @@ module _ (L : Layout) (LL : Lawful L) where
       omega (arith, mul-suc (stepSize L) (length es), length-append h (b ++ p), length-append b p) in
       (λ i. drop (n i) (h ++ sym (append-assoc b p t) i))
       ∙ ap (drop (length (h ++ (b ++ p)) + stepSize L * length es)) (sym (append-assoc h (b ++ p) t))
-      ∙ last-block es (h ++ (b ++ p)) c (LL .length-after b e ∙ l)
+      ∙ last-block es (h ++ (b ++ p)) c (LL .length-after b e l)
 
   module _ (s : List ℕ) (p : Beginning L LL s) where
     -- the bytes right before the place are the block after the last event
@@ -99,7 +101,7 @@ module _ (L : Layout) (LL : Lawful L) where
         (λ i. take (L .size) (drop (n i) (is i)))
         ∙ ap (take (L .size)) (drop-append-le (length h + stepSize L * k) (h ++ (b ++ steps)) (p .rest) fits)
         ∙ ap (λ (l : List ℕ). take (L .size) (l ++ p .rest)) (last-block (p .events) h b (p .size))
-        ∙ take-at (run L b (p .events)) (p .rest) (L .size) (length-run L LL (p .events) b ∙ p .size)
+        ∙ take-at (run L b (p .events)) (p .rest) (L .size) (length-run L LL (p .events) b (p .size))
 
     -- the start block and the events are those read off the string
     block-read : blockBefore L (length (p .events)) s ≡ run L (p .start) (p .events)

@@ -119,7 +119,8 @@ module _ (x y : Answer) (c d : List ℕ) (m : ℕ) (l : 2 ≤ m) where
 
 module _ (x y : Answer) (c d : List ℕ) (number : x .number ≡ y .number) (value : x .value ≡ y .value) where
   -- answers that agree, and blocks that do in the first p words, agree in the first parts
-  pub parts-alike : (p : ℕ) → ((j : ℕ) → j < p → word c j ≡ word d j) → Alike (partWord x c) (partWord y d) NUMBER-PART (BLOCK-PART + p)
+  pub parts-alike : (p : ℕ) → ((j : ℕ) → j < p → word c j ≡ word d j)
+      → Alike (partWord x c) (partWord y d) NUMBER-PART (BLOCK-PART + p)
   parts-alike p a q l h = go (q is NUMBER-PART) (q is VALUE-PART) refl refl
     where
       go : (t u : Bool) → (q is NUMBER-PART) ≡ t → (q is VALUE-PART) ≡ u

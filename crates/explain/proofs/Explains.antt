@@ -10,14 +10,13 @@ use lib.Dec.{eqb}
 use borrow.Author.Tests.{eq-eqb, ne-eqb, eqb-true, eqb-false}
 use Rattle.words.specs.Word.{Bytes}
 use Rattle.words.proofs.Spell.{bytes-drop}
-use Rattle.trace.specs.declared.Report.{Report}
+use Rattle.trace.specs.declared.check.Report.{Report}
 use Rattle.trace.specs.Layout.{Layout, Lawful}
 use Rattle.trace.specs.Report.{report, WRONG-STEP}
 use Rattle.trace.proofs.Records.{length-run, bytes-run}
-use Rattle.explain.specs.declared.Difference.{Difference}
 use Rattle.explain.specs.declared.Explanation.{Explanation}
 use Rattle.explain.specs.Explain.{NUMBER-PART, parts, none, wordFound, wordDue, stepDifference, blockBefore, wrongPart, explanation}
-use Rattle.explain.specs.Claims.{Differs, Nothing, Explains, Meets, foundAt, dueAt}
+use Rattle.explain.specs.Claims.{Differs, Nothing, Explains, foundAt, dueAt}
 use Rattle.explain.proofs.Before.{WrongAt, wrong-at, before-run, wrong-step}
 use Rattle.explain.proofs.Differing.{between, differing-at}
 use Rattle.explain.proofs.Wrong.{wrong-differs}
@@ -26,32 +25,15 @@ use Rattle.explain.proofs.Wrong.{wrong-differs}
 
 module _ (L : Layout) (LL : Lawful L) (words : 4 * (L .size / 4) ≡ L .size) where
   module _ (s : List ℕ) where
-    -- number, place and Steps are the report's
-    pub same-number : explanation L s .number ≡ report L s .number
-    unfolding explanation
-    same-number = refl
-
-    pub same-place : explanation L s .place ≡ report L s .place
-    unfolding explanation
-    same-place = refl
-
-    pub same-steps : explanation L s .steps ≡ report L s .steps
-    unfolding explanation
-    same-steps = refl
-
     -- for any other number there is nothing to explain
-    pub other-nothing : (report L s .number ≡ WRONG-STEP → ⊥) → Nothing L (explanation L s)
+    other-nothing : (report L s .number ≡ WRONG-STEP → ⊥) → Nothing L (explanation L s)
     unfolding explanation
     other-nothing n =
         let d : wrongPart L s (report L s) ≡ none = simp (ne-eqb (report L s .number) WRONG-STEP n) in
-        record {
-          part = ap (λ (w : Difference). w .part) d;
-          found = ap (λ (w : Difference). w .found) d;
-          due = ap (λ (w : Difference). w .due) d;
-        }
+        rw d (record { part = refl; found = refl; due = refl })
 
     -- a wrong Step has a first part that differs
-    pub first-difference : Bytes s → report L s .number ≡ WRONG-STEP → Differs L s (explanation L s)
+    first-difference : Bytes s → report L s .number ≡ WRONG-STEP → Differs L s (explanation L s)
     unfolding explanation stepDifference
     first-difference by e =
         let v : Report = report L s in
@@ -60,8 +42,8 @@ module _ (L : Layout) (LL : Lawful L) (words : 4 * (L .size / 4) ≡ L .size) wh
         let r : List ℕ = drop (v .place) s in
         let is = before-run L LL s v w in
         let p = w .begun in
-        let size = ap length is ∙ length-run L LL (p .events) (p .start) ∙ p .size in
-        let bytes : Bytes b = rw is (bytes-run L LL (p .events) (p .start) (p .bytes)) in
+        let size = ap length is ∙ length-run L LL (p .events) (p .start) (p .size) in
+        let bytes : Bytes b = rw is (bytes-run L LL (p .events) (p .start) (p .size) (p .bytes)) in
         let at = wrong-differs L LL words b r size bytes (bytes-drop (v .place) s by) (wrong-step L LL s v w) in
         let d : wrongPart L s v ≡ between (wordFound L r) (wordDue L b r) (at .at) =
         simp (eq-eqb (v .number) WRONG-STEP e)
@@ -78,14 +60,9 @@ module _ (L : Layout) (LL : Lawful L) (words : 4 * (L .size / 4) ≡ L .size) wh
         })
 
     pub explains : Bytes s → Explains L s (explanation L s)
+    unfolding explanation
     explains by =
-        record {
-          number = same-number;
-          place = same-place;
-          steps = same-steps;
-          wrong = λ e. first-difference by (sym same-number ∙ e);
-          other = λ n. other-nothing (λ e. n (same-number ∙ e));
-        }
+        record { number = refl; place = refl; steps = refl; wrong = first-difference by; other = other-nothing }
 
     -- ---- and nothing else explains a string
 
@@ -158,7 +135,3 @@ module _ (L : Layout) (LL : Lawful L) (words : 4 * (L .size / 4) ≡ L .size) wh
             found = (d .found ∙ sym (e .found)) i;
             due = (d .due ∙ sym (e .due)) i;
           }
-
-  -- two functions that meet the statement agree
-  pub meets-once : (f g : List ℕ → Explanation) → Meets L f → Meets L g → (s : List ℕ) → Bytes s → f s ≡ g s
-  meets-once f g p q s by = p s by ∙ sym (q s by)

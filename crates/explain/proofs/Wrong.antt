@@ -2,9 +2,9 @@
 -- would be, and the Step would be right.
 use mathlib.Core.Path.{_≡_, refl, sym, _∙_}
 use mathlib.Core.Bool.{Bool, true, false}
-use mathlib.Core.Logic.{_⊎_, inl, inr}
+use mathlib.Core.Logic.{_⊎_, inl, inr, ⊎-elim}
 use mathlib.Core.List.{List}
-use Prim.Native.Nat.{ℕ, zero, suc, _+_, _*_, _/_}
+use Prim.Native.Nat.{ℕ, _+_, _*_, _/_}
 use native.Mathlib.Omega.{arith}
 use lib.ListN.{length, take, drop, length-take, length-drop}
 use lib.Dec.{eqb, leb}
@@ -12,10 +12,10 @@ use Rattle.words.specs.Word.{half, Bytes}
 use Rattle.words.proofs.SameWords.{same-words}
 use Rattle.words.proofs.Spell.{bytes-drop, bytes-take}
 use Rattle.rules.specs.declared.event.Event.{Event}
-use Rattle.trace.specs.Layout.{Layout, Lawful, stepSize, blockAfterAt}
+use Rattle.trace.specs.Layout.{Layout, Lawful, headSize, stepSize, lengthAt, kindAt, blockAfterAt}
 use Rattle.trace.specs.Report.{unless, _else_, headNumber, stepNumber, eventOf, SHORT, BAD-RECORD, WRONG-STEP}
 use Rattle.trace.specs.Judged.{Shows}
-use Rattle.trace.proofs.Faults.{else-first, head-whole}
+use Rattle.trace.proofs.Faults.{zero-or-not, else-first, head-whole}
 use Rattle.trace.proofs.Judging.{judged-right}
 use Rattle.explain.specs.Explain.{NUMBER-PART, VALUE-PART, BLOCK-PART, parts, wordFound, wordDue}
 use Rattle.explain.proofs.Differing.{Alike, First, first, part-block}
@@ -24,7 +24,7 @@ use Rattle.explain.proofs.Differing.{Alike, First, first, part-block}
 head-other : (len kind : ℕ) (r : List ℕ) → headNumber len kind r ≡ WRONG-STEP → ⊥
 unfolding headNumber
 head-other len kind r =
-    go (leb 4 (length r)) (eqb (half r 0) len) (eqb (half r 2) kind) (leb len (length r))
+    go (leb headSize (length r)) (eqb (half r lengthAt) len) (eqb (half r kindAt) kind) (leb len (length r))
   where
     go : (a b c d : Bool)
         → (unless a SHORT else unless b BAD-RECORD else unless c BAD-RECORD else unless d SHORT) ≡ WRONG-STEP → ⊥
@@ -38,15 +38,10 @@ module _ (L : Layout) (LL : Lawful L) (words : 4 * (L .size / 4) ≡ L .size) wh
   module _ (b r : List ℕ) (size : length b ≡ L .size) (bb : Bytes b) (by : Bytes r) (wrong : stepNumber L b r ≡ WRONG-STEP) where
     right-head : headNumber (stepSize L) (L .stepKind) r ≡ 0
     unfolding stepNumber
-    right-head = go (headNumber (stepSize L) (L .stepKind) r) refl
-      where
-        go : (h : ℕ) → headNumber (stepSize L) (L .stepKind) r ≡ h → headNumber (stepSize L) (L .stepKind) r ≡ 0
-        go zero e = e
-        go (suc h) e =
-            let n : (headNumber (stepSize L) (L .stepKind) r ≡ 0 → ⊥) = λ z.
-            absurd (let w : suc h ≡ 0 = sym e ∙ z in omega arith) in
-            absurd (head-other (stepSize L) (L .stepKind) r
-            (sym (else-first (headNumber (stepSize L) (L .stepKind) r) _ n) ∙ wrong))
+    right-head =
+        ⊎-elim (λ z. z)
+        (λ n. absurd (head-other (stepSize L) (L .stepKind) r (sym (else-first _ _ n) ∙ wrong)))
+        (zero-or-not (headNumber (stepSize L) (L .stepKind) r))
 
     -- words that all agree show what the rules give
     alike-shows : Alike (wordFound L r) (wordDue L b r) NUMBER-PART (NUMBER-PART + parts L)
@@ -60,9 +55,9 @@ module _ (L : Layout) (LL : Lawful L) (words : 4 * (L .size / 4) ≡ L .size) wh
         record {
           number = a NUMBER-PART (omega arith) (omega arith);
           value = a VALUE-PART (omega arith) (omega arith);
-          block = same-words (L .size / 4) c (L .after b e) shown (LL .length-after b e ∙ size ∙ sym words)
+          block = same-words (L .size / 4) c (L .after b e) shown (LL .length-after b e size ∙ sym words)
               (bytes-take (L .size) (drop blockAfterAt r) (bytes-drop blockAfterAt r by))
-              (LL .bytes-after b e bb)
+              (LL .bytes-after b e size bb)
               (λ p l.
               sym (part-block _ c p) ∙ a (BLOCK-PART + p) (omega arith) (omega arith)
               ∙ part-block (L .answer b e) (L .after b e) p);
@@ -77,5 +72,5 @@ module _ (L : Layout) (LL : Lawful L) (words : 4 * (L .size / 4) ≡ L .size) wh
             → First (wordFound L r) (wordDue L b r) (parts L) NUMBER-PART
         go (inr w) = w
         go (inl a) =
-            let j = judged-right L LL r b by bb right-head (L .after b (eventOf r)) (alike-shows a) refl in
+            let j = judged-right L LL r b size by bb right-head (L .after b (eventOf r)) (alike-shows a) refl in
             absurd (let z : 0 ≡ WRONG-STEP = j .number ∙ wrong in omega arith)

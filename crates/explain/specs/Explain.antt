@@ -11,7 +11,7 @@ use lib.ListN.{take, drop}
 use Rattle.words.specs.Word.{spelt, word}
 use Rattle.state.specs.Choice.{if_then_else_, _is_}
 use Rattle.rules.specs.declared.verdict.Answer.{Answer}
-use Rattle.trace.specs.declared.Report.{Report}
+use Rattle.trace.specs.declared.check.Report.{Report}
 use Rattle.trace.specs.Layout.{Layout, startSize, numberAt, valueAt, blockAfterAt}
 use Rattle.trace.specs.Published.{run}
 use Rattle.trace.specs.Report.{WRONG-STEP, eventOf, report}

@@ -6,7 +6,9 @@
 use machine::step::step_event;
 use rules::event::Event;
 use rules::verdict::Answer;
+use state::number::WRONG_STEP;
 use state::place;
+use trace::layout;
 use words::get_word;
 use words::word_at;
 ghost use mathlib.Core.Path.{_≡_};
@@ -43,7 +45,8 @@ pub struct Explanation {
 // Where a Step that shows this answer and this block after differs first from the answer and the block that are due.
 fn first_difference(shown: Answer, after: &[u8], due: Answer, block: &[u8]) -> Difference
     requires { ⌜ (length (now after) ≡ layout01 .size) × (length (now block) ≡ layout01 .size) ⌝ }
-    ensures { λ d. ⌜ d ≡ differing (parts layout01) NUMBER-PART (partWord shown (now (after .entry))) (partWord due (now (block .entry))) ⌝ }
+    ensures { λ d. ⌜ d ≡ differing (parts layout01) NUMBER-PART
+        (partWord shown (now (after .entry))) (partWord due (now (block .entry))) ⌝ }
 {
     if shown.number != due.number {
         return Difference {
@@ -87,18 +90,18 @@ fn step_difference(r: &[u8], block: &mut [u8]) -> Difference
     let due = step_event(
         block,
         Event {
-            code: word_at(r, trace::CODE),
-            a: word_at(r, trace::A),
-            b: word_at(r, trace::B),
+            code: word_at(r, layout::CODE),
+            a: word_at(r, layout::A),
+            b: word_at(r, layout::B),
         },
     );
     let shown = Answer {
-        number: word_at(r, trace::NUMBER),
-        value: word_at(r, trace::VALUE),
+        number: word_at(r, layout::NUMBER),
+        value: word_at(r, layout::VALUE),
     };
     first_difference(
         shown,
-        &r[trace::BLOCK_AFTER..trace::STEP_SIZE as usize],
+        &r[layout::BLOCK_AFTER..layout::STEP_SIZE as usize],
         due,
         block,
     )
@@ -107,7 +110,8 @@ fn step_difference(r: &[u8], block: &mut [u8]) -> Difference
 // The same of the Step at this place of a trace, from the block that stands before it.
 fn difference_at(trace: &[u8], step: u32) -> Difference
     requires { ⌜ (startSize layout01 ≤ step) × (step + stepSize layout01 ≤ length (now trace)) ⌝ }
-    ensures { λ d. ⌜ d ≡ stepDifference layout01 (take (layout01 .size) (drop (step - layout01 .size) (now (trace .entry)))) (drop step (now (trace .entry))) ⌝ }
+    ensures { λ d. ⌜ d ≡ stepDifference layout01
+        (take (layout01 .size) (drop (step - layout01 .size) (now (trace .entry)))) (drop step (now (trace .entry))) ⌝ }
 {
     let at = step as usize;
     let before = at - place::BLOCK_SIZE;
@@ -120,8 +124,8 @@ fn difference_at(trace: &[u8], step: u32) -> Difference
 pub fn explain(trace: &[u8]) -> Explanation
     ensures { λ r. ⌜ r ≡ explanation layout01 (now (trace .entry)) ⌝ }
 {
-    let report = trace::check(trace);
-    if report.number != trace::WRONG_STEP {
+    let report = trace::check::check(trace);
+    if report.number != WRONG_STEP {
         return Explanation {
             number: report.number,
             place: report.place,

@@ -1,14 +1,13 @@
 -- Where an interrupt goes, a good state stays good: one test over the modes and the bits, for any kind.
-use mathlib.Core.Path.{_≡_, refl, sym, ap, _∙_}
-use mathlib.Core.Bool.{Bool, true, false, not, _&&_, _||_}
+use mathlib.Core.Path.{_≡_, refl}
+use mathlib.Core.Bool.{Bool, true, not, _&&_, _||_}
 use mathlib.Core.List.{List, [], _∷_}
 use Prim.Native.Nat.{ℕ}
 use Rattle.state.specs.Choice.{if_then_else_, _is_, _among_}
 use Rattle.state.specs.Field.{mode-field, SCR-NS, HCR-TGE}
-use Rattle.state.specs.Mode.{FIQ, IRQ, ABORT, MONITOR, HYP, USER, modes, known, el1}
-use Rattle.state.specs.State.{secure, nsUser, nsEl1}
+use Rattle.state.specs.Mode.{FIQ, IRQ, ABORT, MONITOR, HYP, modes, known, el1}
 use Rattle.state.proofs.Good.{stands, Good}
-use Rattle.state.proofs.Test.{and-left, and-right, both, implies, implied, everyBit, at-bit, everyOf, at-one}
+use Rattle.state.proofs.Test.{implies, implied, everyBit, at-bit, everyOf, at-one}
 use Rattle.entry.proofs.Keeps.{mayStand}
 use Rattle.interrupts.specs.Check.{goes}
 use Rattle.interrupts.specs.Kind.{Kind, serror, fiq, irq, R, M, ownMode}

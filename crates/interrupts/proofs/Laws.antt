@@ -1,23 +1,47 @@
 -- The masking table asked quickly, the virtual exceptions asked together, and the first of the six on each way through.
-use mathlib.Core.Path.{_≡_, refl, sym, ap, _∙_}
+use mathlib.Core.Path.{_≡_, refl, ap, _∙_}
 use mathlib.Core.Bool.{Bool, true, false, not, _&&_, _||_}
 use mathlib.Core.List.{List, [], _∷_}
-use Prim.Native.Nat.{ℕ}
-use Rattle.state.specs.Choice.{if_then_else_, _is_, _among_}
+use Prim.Native.Nat.{ℕ, suc}
+use lib.Dec.{eqb}
+use borrow.Author.Tests.{eqb-true}
+use Rattle.state.specs.Choice.{if_then_else_, _is_}
 use Rattle.state.specs.Field.{mode-field, SCR-NS, HCR-TGE}
 use Rattle.state.specs.Mode.{USER, HYP, el1, guest}
 use Rattle.state.specs.State.{secure, nsEl1, nsUser}
 use Rattle.state.proofs.Laws.{ns-el1, ns-user}
 use Rattle.state.proofs.Test.{same, same-eq, everyBit, at-bit}
 use Rattle.interrupts.specs.Check.{firstOf, found}
-use native.Mathlib.Omega.{arith}
-use Rattle.interrupts.specs.Exception.{Exception, Synchronous, SError, Fiq, Irq, VirtualSError, VirtualFiq, VirtualIrq, order}
+use borrow.Author.Tests.{eqb-false}
+use Rattle.interrupts.specs.Exception.{Exception, Synchronous, SError, Fiq, Irq, VirtualSError, VirtualFiq, VirtualIrq, which}
 use Rattle.interrupts.specs.Kind.{Kind, serror, fiq, irq, line, R, M, W, mask, source}
-use Rattle.interrupts.specs.Masking.{obeyed}
+use Rattle.interrupts.specs.Masking.{Row, table, covers, fits, obeyed}
 use Rattle.interrupts.specs.Parts.{virtualHere, takenIf, takesVirtual}
 use Rattle.interrupts.specs.Takeable.{physicalMasked, virtualPending, pending, masked, takeable}
 use Rattle.interrupts.specs.declared.check.Found.{Found}
 use Rattle.interrupts.specs.declared.check.Found.the-variants.{Nothing, First}
+
+-- every state has one row of the masking table, and only one
+abbrev fitting : List Row → Bool → Bool → Bool → Bool → Bool → ℕ
+fitting [] sec hyp m r w = 0
+fitting (x ∷ xs) sec hyp m r w =
+    if covers (x .who) sec hyp && (fits (x .m) m && (fits (x .r) r && fits (x .w) w)) then suc (fitting xs sec hyp m r w) else
+    fitting xs sec hyp m r w
+
+rows-tried : everyBit (λ sec. everyBit (λ hyp. everyBit (λ m. everyBit (λ r. everyBit (λ w. eqb (fitting table sec hyp m r w) 1)))))
+    ≡ true
+rows-tried = refl
+
+pub one-row : (sec hyp m r w : Bool) → fitting table sec hyp m r w ≡ 1
+one-row sec hyp m r w =
+    let one : Bool → Bool → Bool → Bool → Bool → Bool = λ sec hyp m r w. eqb (fitting table sec hyp m r w) 1 in
+    eqb-true (fitting table sec hyp m r w) 1
+    (at-bit (one sec hyp m r)
+    (at-bit (λ r. everyBit (one sec hyp m r))
+    (at-bit (λ m. everyBit (λ r. everyBit (one sec hyp m r)))
+    (at-bit (λ hyp. everyBit (λ m. everyBit (λ r. everyBit (one sec hyp m r))))
+    (at-bit (λ sec. everyBit (λ hyp. everyBit (λ m. everyBit (λ r. everyBit (one sec hyp m r))))) rows-tried sec)
+    hyp) m) r) w)
 
 -- the masking table by tests: at every state and every M, R and W it says the same as its rows
 abbrev pub obeyedBy : Bool → Bool → Bool → Bool → Bool → Bool
@@ -82,6 +106,13 @@ pub physical-tests : (k : Kind) (lines cpsr scr hcr : ℕ) {msk sec hyp m r w v 
 physical-tests k lines cpsr scr hcr msk sec hyp m r w e =
     e ∙ (λ i. line k lines && not (obeyed (sec i) (hyp i) (m i) (r i) (w i) && msk i))
 
+-- none of the physical exceptions can be taken
+abbrev pub NonePhysical : ℕ → ℕ → ℕ → ℕ → Type 0
+NonePhysical lines cpsr scr hcr =
+    (takeable SError lines cpsr scr hcr ≡ false)
+    × (takeable Fiq lines cpsr scr hcr ≡ false)
+    × (takeable Irq lines cpsr scr hcr ≡ false)
+
 -- the first of the six, on each way through the tests
 module _ (lines cpsr scr hcr : ℕ) where
   abbrev can : Exception → Bool
@@ -99,12 +130,11 @@ module _ (lines cpsr scr hcr : ℕ) where
   unfolding found
   first-irq a b c = rw (a, b, c)
 
-  -- none of the physical ones
-  module _ (a : can SError ≡ false) (b : can Fiq ≡ false) (c : can Irq ≡ false) where
+  module _ (none : NonePhysical lines cpsr scr hcr) where
     rest : {x : Found} → x ≡ firstOf (VirtualSError ∷ VirtualFiq ∷ VirtualIrq ∷ []) lines cpsr scr hcr
         → x ≡ found lines cpsr scr hcr
     unfolding found
-    rest h = rw (a, b, c) h
+    rest h = rw (none .0, none .1, none .2) h
 
     serror-is : can VirtualSError ≡ (virtualHere cpsr scr hcr && takesVirtual serror 0 cpsr hcr)
     unfolding takeable pending masked
@@ -140,29 +170,11 @@ pub found-cases : (P : Found → Type 0) (lines cpsr scr hcr : ℕ) → P Nothin
     → P (found lines cpsr scr hcr)
 unfolding found
 found-cases P lines cpsr scr hcr none some =
-    try SError never1 (try Fiq never2 (try Irq never3 (try VirtualSError never4 (try VirtualFiq never5 (try VirtualIrq never6 none)))))
+    try SError refl (try Fiq refl (try Irq refl (try VirtualSError refl (try VirtualFiq refl (try VirtualIrq refl none)))))
   where
-    try : (x : Exception) → (x ≡ Synchronous → ⊥) → {r : Found} → P r → P (if takeable x lines cpsr scr hcr then First x else r)
+    try : (x : Exception) → (which x is 0) ≡ false → {r : Found} → P r → P (if takeable x lines cpsr scr hcr then First x else r)
     try x n {r} h = by (takeable x lines cpsr scr hcr) refl
       where
         by : (t : Bool) → takeable x lines cpsr scr hcr ≡ t → P (if t then First x else r)
-        by true e = some x n e
+        by true e = some x (λ q. eqb-false (which x) 0 n (ap which q)) e
         by false e = h
-
-    never1 : SError ≡ Synchronous → ⊥
-    never1 e = let z : _≡_ {A = ℕ} 0 1 = cc in omega arith
-
-    never2 : Fiq ≡ Synchronous → ⊥
-    never2 e = let z : _≡_ {A = ℕ} 0 1 = cc in omega arith
-
-    never3 : Irq ≡ Synchronous → ⊥
-    never3 e = let z : _≡_ {A = ℕ} 0 1 = cc in omega arith
-
-    never4 : VirtualSError ≡ Synchronous → ⊥
-    never4 e = let z : _≡_ {A = ℕ} 0 1 = cc in omega arith
-
-    never5 : VirtualFiq ≡ Synchronous → ⊥
-    never5 e = let z : _≡_ {A = ℕ} 0 1 = cc in omega arith
-
-    never6 : VirtualIrq ≡ Synchronous → ⊥
-    never6 e = let z : _≡_ {A = ℕ} 0 1 = cc in omega arith

@@ -1,9 +1,9 @@
 -- An interrupt goes to a mode with a saved state of its own, at an offset of the vector table: once over its kind.
-use mathlib.Core.Path.{_≡_, refl}
-use mathlib.Core.Bool.{Bool, true, false, not, _&&_, _||_}
+use mathlib.Core.Path.{refl}
+use mathlib.Core.Bool.{not, _&&_, _||_}
 use Prim.Native.Nat.{ℕ, _<_}
 use lib.Dec.{lit<}
-use Rattle.state.specs.Choice.{if_then_else_, _is_}
+use Rattle.state.specs.Choice.{_is_}
 use Rattle.state.specs.Field.{mode-field, HCR-TGE}
 use Rattle.state.specs.Mode.{MONITOR, HYP, isTarget}
 use Rattle.state.specs.State.{secure}
@@ -29,6 +29,6 @@ own-small fiq = lit< tt
 own-small irq = lit< tt
 
 pub offset-small : (k : Kind) (to from : ℕ) → IsOffset (offsetOf k to from)
-offset-small serror to from = offset-to-small to from 0x10 (lit< tt)
+offset-small serror to from = offset-to-small to from (ownOffset serror) (lit< tt)
 offset-small fiq to from = lit< tt
 offset-small irq to from = lit< tt

@@ -5,9 +5,10 @@ use Prim.Native.Nat.{ℕ}
 use Rattle.state.specs.Choice.{if_then_else_, _is_}
 use Rattle.state.specs.Field.{mode-field, HCR-TGE}
 use Rattle.state.specs.Mode.{MONITOR, HYP}
+use Rattle.state.specs.Number.{NOT-HERE}
 use Rattle.state.specs.State.{secure}
 use Rattle.entry.specs.Route.{offsetTo, linkTo}
-use Rattle.entry.specs.Way.{Way, NotHere, Enter}
+use Rattle.entry.specs.Way.{Way, Barred, Enter}
 use Rattle.interrupts.specs.Exception.{Exception, Synchronous, SError, Fiq, Irq, VirtualSError, VirtualFiq, VirtualIrq, order}
 use Rattle.interrupts.specs.Kind.{Kind, serror, fiq, irq, R, M, ownMode, ownOffset, addend}
 use Rattle.interrupts.specs.Takeable.{takeable}
@@ -46,7 +47,7 @@ abbrev pub virtualWay : Kind → ℕ → Way
 virtualWay k pc = Enter (ownMode k) (ownOffset k) (linkTo (ownMode k) pc (addend k))
 
 unfoldable pub way : Exception → ℕ → ℕ → ℕ → ℕ → Way
-way Synchronous cpsr scr hcr pc = NotHere
+way Synchronous cpsr scr hcr pc = Barred NOT-HERE
 way SError cpsr scr hcr pc = physicalWay serror cpsr scr hcr pc
 way Fiq cpsr scr hcr pc = physicalWay fiq cpsr scr hcr pc
 way Irq cpsr scr hcr pc = physicalWay irq cpsr scr hcr pc

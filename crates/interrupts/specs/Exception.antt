@@ -3,7 +3,8 @@
 use mathlib.Core.List.{List, [], _∷_}
 use Prim.Native.Nat.{ℕ}
 pub use Rattle.interrupts.specs.declared.exception.Exception.{Exception}
-pub use Rattle.interrupts.specs.declared.exception.Exception.the-variants.{Synchronous, SError, Fiq, Irq, VirtualSError, VirtualFiq, VirtualIrq}
+pub use Rattle.interrupts.specs.declared.exception.Exception.the-variants.{Synchronous, SError, Fiq, Irq}
+pub use Rattle.interrupts.specs.declared.exception.Exception.the-variants.{VirtualSError, VirtualFiq, VirtualIrq}
 
 abbrev pub which : Exception → ℕ
 which Synchronous = 0

@@ -2,8 +2,10 @@
 -- and "Events").
 use mathlib.Core.Bool.{Bool, true, _||_}
 use Prim.Native.Nat.{ℕ}
-use Rattle.state.specs.Field.{bit, CPSR-A, CPSR-I, CPSR-F, SCR-IRQ, SCR-FIQ, SCR-EA, SCR-FW, SCR-AW, HCR-FMO, HCR-IMO, HCR-AMO, HCR-VF, HCR-VI, HCR-VA}
+use Rattle.state.specs.Field.{bit, CPSR-A, CPSR-I, CPSR-F, SCR-IRQ, SCR-FIQ, SCR-EA, SCR-FW, SCR-AW, HCR-FMO, HCR-IMO}
+use Rattle.state.specs.Field.{HCR-AMO, HCR-VF, HCR-VI, HCR-VA}
 use Rattle.state.specs.Mode.{FIQ, IRQ, ABORT}
+use Rattle.entry.specs.Offset as offsets
 
 pub data Kind : Type 0 where
   serror : Kind
@@ -54,9 +56,9 @@ ownMode irq = IRQ
 
 -- "Offsets: Data Abort and SError 0x10, IRQ 0x18, FIQ 0x1C"
 abbrev pub ownOffset : Kind → ℕ
-ownOffset serror = 0x10
-ownOffset fiq = 0x1C
-ownOffset irq = 0x18
+ownOffset serror = offsets.SERROR
+ownOffset fiq = offsets.FIQ
+ownOffset irq = offsets.IRQ
 
 -- what LR has added: "IRQ, FIQ 4; Data Abort, SError 8"
 abbrev pub addend : Kind → ℕ

@@ -32,7 +32,7 @@ pending VirtualSError lines cpsr scr hcr = virtualPending serror lines cpsr scr 
 pending VirtualFiq lines cpsr scr hcr = virtualPending fiq lines cpsr scr hcr
 pending VirtualIrq lines cpsr scr hcr = virtualPending irq lines cpsr scr hcr
 
--- "It is takeable if its mask bit is 0"
+-- a physical exception by the masking table; a virtual one is "takeable if its mask bit is 0"
 unfoldable pub masked : Exception → ℕ → ℕ → ℕ → Bool
 masked Synchronous cpsr scr hcr = false
 masked SError cpsr scr hcr = physicalMasked serror cpsr scr hcr

@@ -1,5 +1,5 @@
 // The interrupt check: which exceptions are pending, which of them can be taken, and whether the first goes to Hyp. The entry
-// itself is in `machine`.
+// itself is in `interrupt_check`.
 pub mod check;
 pub mod exception;
 pub mod takeable;

@@ -1,7 +1,7 @@
--- Statement 7: the starred cases a to j of document 01 ("Numbers to hold against it"), as one list under one statement.
+-- The starred cases a to j of document 01 ("Numbers to hold against it"), as one list under one statement.
 -- antt computes it.
 use mathlib.Core.Path.{_≡_, refl}
-use mathlib.Core.Bool.{Bool, true, false, _&&_}
+use mathlib.Core.Bool.{Bool, true, _&&_}
 use mathlib.Core.List.{List, [], _∷_}
 use Prim.Native.Nat.{ℕ}
 use lib.Dec.{eqb}
@@ -101,5 +101,8 @@ cases =
     ∷ []
 
 pub starred : all cases ≡ true
-unfolding spelt put known el1 guest spsrPlace lrPlace good nsCleared masksAfter cpsrAfter vectorBase written entered synchronous.toMonitor synchronous.toHyp synchronous.target synchronous.offset synchronous.link synchronous.notHere synchronous.way interrupt.found interrupt.way obeyed pending masked takeable cell denied right badEvent refusal doneAction action answer after value
+unfolding spelt put known el1 guest spsrPlace lrPlace good nsCleared masksAfter cpsrAfter vectorBase written entered
+    synchronous.toMonitor synchronous.toHyp synchronous.target synchronous.offset synchronous.link
+    synchronous.notHere synchronous.way interrupt.found interrupt.way obeyed pending masked takeable cell denied
+    right badEvent refusal doneAction action answer after value
 starred = refl

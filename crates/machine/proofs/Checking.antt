@@ -13,17 +13,19 @@ use Rattle.state.specs.Choice.{if_then_else_, _is_}
 use Rattle.state.specs.Number.{DONE}
 use Rattle.state.specs.Place.{CPSR, PC, SCR, HCR}
 use Rattle.state.proofs.Test.{and-left, and-right, both, true-is-not-false}
-use Rattle.entry.specs.Way.{Way, NotHere, Enter}
+use Rattle.entry.specs.Way.{Way, Barred, Enter}
 use Rattle.interrupts.specs.Check as interrupt
 use Rattle.interrupts.specs.Exception.{which, order}
 use Rattle.interrupts.specs.Takeable.{pending, masked, takeable}
 use Rattle.interrupts.specs.declared.check.Found.{Found}
 use Rattle.interrupts.specs.declared.check.Found.the-variants.{Nothing, First}
 use Rattle.interrupts.specs.declared.exception.Exception.{Exception}
-use Rattle.interrupts.specs.declared.exception.Exception.the-variants.{Synchronous, SError, Fiq, Irq, VirtualSError, VirtualFiq, VirtualIrq}
+use Rattle.interrupts.specs.declared.exception.Exception.the-variants.{Synchronous, SError, Fiq, Irq}
+use Rattle.interrupts.specs.declared.exception.Exception.the-variants.{VirtualSError, VirtualFiq, VirtualIrq}
 use Rattle.rules.specs.Event.{INTERRUPT-CHECK}
 use Rattle.rules.specs.Refusal.{refusal}
-use Rattle.rules.specs.Step.{Action, Take, takenBy, checked, doneAction, action, answerTo, blockAfter, answer, after}
+use Rattle.rules.specs.Step.{Action, Take, takenBy, interruptWay, foundIn, checkedIn, doneAction, action, answerTo}
+use Rattle.rules.specs.Step.{blockAfter, answer, after}
 use Rattle.rules.specs.Verdict.{value}
 use Rattle.rules.specs.declared.event.Event.{Event}
 use Rattle.rules.specs.declared.verdict.Answer.{Answer}
@@ -80,7 +82,7 @@ module _ (b : List ℕ) (e : Event) where
   can x = takeable x (e .a) (word b CPSR) (word b SCR) (word b HCR)
 
   abbrev routed : Exception → Way
-  routed x = interrupt.way x (word b CPSR) (word b SCR) (word b HCR) (word b PC)
+  routed x = interruptWay b x
 
   can-be : (x : Exception) → can x ≡ true → CanBeTaken b e x
   unfolding takeable
@@ -118,7 +120,7 @@ module _ (b : List ℕ) (e : Event) where
           none (inr o) = s o
 
   abbrev found : Found
-  found = interrupt.found (e .a) (word b CPSR) (word b SCR) (word b HCR)
+  found = foundIn b (e .a)
 
   found-says : Says order found
   unfolding interrupt.found
@@ -159,7 +161,7 @@ module _ (b : List ℕ) (e : Event) where
       omega arith
 
   module _ (done : refusal b e ≡ DONE) (check : e .code ≡ INTERRUPT-CHECK) where
-    is-checked : action b e ≡ checked (e .a) (word b CPSR) (word b SCR) (word b HCR) (word b PC) found
+    is-checked : action b e ≡ checkedIn b (e .a) found
     unfolding action doneAction
     is-checked = rw (eq-eqb (refusal b e) DONE done, check)
 
@@ -174,7 +176,7 @@ module _ (b : List ℕ) (e : Event) where
       where
         nothing : found ≡ Nothing → TakesNothing b e
         nothing h =
-            let a = is-checked ∙ ap (checked (e .a) (word b CPSR) (word b SCR) (word b HCR) (word b PC)) h in
+            let a = is-checked ∙ ap (checkedIn b (e .a)) h in
             record {
               number = ap (λ (x : Action). answerTo b x .number) a;
               value = ap (λ (x : Action). answerTo b x .value) a;
@@ -185,10 +187,10 @@ module _ (b : List ℕ) (e : Event) where
         enters x h n = on (routed x) refl
           where
             on : (w : Way) → routed x ≡ w → EntersBy b e x
-            on NotHere q = absurd (interrupt-enters x _ _ _ _ n q)
+            on (Barred k) q = absurd (rw q at (interrupt-enters x (word b CPSR) (word b SCR) (word b HCR) (word b PC) n))
             on (Enter to offset link) q =
                 let a : action b e ≡ Take x to offset link =
-                is-checked ∙ ap (checked (e .a) (word b CPSR) (word b SCR) (word b HCR) (word b PC)) h ∙ ap (takenBy x) q in
+                is-checked ∙ ap (checkedIn b (e .a)) h ∙ ap (takenBy x) q in
                 record {
                   to = to;
                   offset = offset;

@@ -7,7 +7,7 @@ use native.Mathlib.Omega.{arith}
 use lib.ListN.{length}
 use borrow.Author.Tests.{eqb-true, eqb-false, not-false}
 use Rattle.words.specs.Word.{word, put, Bytes}
-use Rattle.words.proofs.Laws.{word-put-same, word-put-other, spelt-fits}
+use Rattle.words.proofs.Laws.{word-put-same, spelt-fits}
 use Rattle.state.specs.Choice.{if_then_else_, _is_}
 use Rattle.state.specs.Field.{bits, without, mode-field}
 use Rattle.state.specs.Mode.{isTarget, spsrPlace, lrPlace}
@@ -16,10 +16,12 @@ use Rattle.state.specs.Place.{BLOCK-SIZE, CPSR, PC, SCR, HCR}
 use Rattle.entry.specs.Enter.{nsCleared, cpsrAfter, controlPlace, vectorBase, vector, entered}
 use Rattle.entry.proofs.Keeps as entry
 use Rattle.interrupts.specs.declared.exception.Exception.{Exception}
-use Rattle.interrupts.specs.declared.exception.Exception.the-variants.{Synchronous, SError, Fiq, Irq, VirtualSError, VirtualFiq, VirtualIrq}
+use Rattle.interrupts.specs.declared.exception.Exception.the-variants.{Synchronous, SError, Fiq, Irq}
+use Rattle.interrupts.specs.declared.exception.Exception.the-variants.{VirtualSError, VirtualFiq, VirtualIrq}
 use Rattle.rules.specs.declared.event.Event.{Event}
 use Rattle.rules.specs.Refusal.{refusal}
 use Rattle.rules.specs.Step.{Action, Refuse, Take, doneAction, action, vaCleared, blockAfter, after}
+use Rattle.rules.proofs.Carrying.{va-other}
 use Rattle.rules.proofs.Rows.{passed}
 use Rattle.rules.specs.Parts.{Sound}
 use Rattle.rules.proofs.Sound.{action-sound}
@@ -132,16 +134,7 @@ module _ (b : List ℕ) (e : Event) (bytes : Bytes b) (x : Exception) (to offset
       ∙ va-hcr x
 
   -- no other word is touched
-  va-other : (y : Exception) (q : ℕ) → (HCR ≡ q → ⊥) → word (vaCleared b y) q ≡ word b q
-  va-other Synchronous q n = refl
-  va-other SError q n = refl
-  va-other Fiq q n = refl
-  va-other Irq q n = refl
-  va-other VirtualSError q n = word-put-other b HCR (without 8 (word b HCR)) q n
-  va-other VirtualFiq q n = refl
-  va-other VirtualIrq q n = refl
-
-  pub others : (q : ℕ) → (spsrPlace to ≡ q → ⊥) → (lrPlace to ≡ q → ⊥) → (CPSR ≡ q → ⊥) → (PC ≡ q → ⊥) → (SCR ≡ q → ⊥)
-      → (HCR ≡ q → ⊥) → word (after b e) q ≡ word b q
+  pub others : (q : ℕ) → (spsrPlace to ≡ q → ⊥) → (lrPlace to ≡ q → ⊥) → (CPSR ≡ q → ⊥) → (PC ≡ q → ⊥)
+      → (SCR ≡ q → ⊥) → (HCR ≡ q → ⊥) → word (after b e) q ≡ word b q
   others q s l c p n h =
-      at q ∙ entry.other-word v to (alike .0) (alike .1 .0) offset link a-target q s l c p n ∙ va-other x q h
+      at q ∙ entry.other-word v to (alike .0) (alike .1 .0) offset link a-target q s l c p n ∙ va-other b x q h

@@ -1,7 +1,7 @@
 -- A done step on a good block leaves a good block: where an exception goes its target may stand, and a word that is put leaves
 -- the three that a block is judged by, or is tested on the block that it makes.
 use mathlib.Core.Path.{_≡_, refl, sym, ap, _∙_}
-use mathlib.Core.Bool.{Bool, true, false, not, _&&_, _||_}
+use mathlib.Core.Bool.{true, false, not, _&&_, _||_}
 use mathlib.Core.List.{List}
 use Prim.Native.Nat.{ℕ, _*_, _/_, _%_, _^_, _<_}
 use native.Mathlib.Nat.{div-div-eq-div-mul}
@@ -11,7 +11,7 @@ use lib.ListN.{length}
 use borrow.Author.Tests.{eqb-true, eqb-false, not-false}
 use Rattle.words.specs.Word.{word, put, Bytes}
 use Rattle.words.proofs.Laws.{length-put, bytes-put, word-put-same, word-put-other, spelt-fits}
-use Rattle.state.specs.Choice.{if_then_else_, _is_}
+use Rattle.state.specs.Choice.{_is_}
 use Rattle.state.specs.Field.{without, mode-field, SCR-NS, HCR-TGE}
 use Rattle.state.specs.Mode.{isTarget}
 use Rattle.state.specs.Number.{DONE}
@@ -22,23 +22,24 @@ use Rattle.state.proofs.Test.{and-left, and-right}
 use Rattle.entry.specs.Code.{isSynchronous}
 use Rattle.entry.specs.Enter.{entered}
 use Rattle.entry.specs.Route as synchronous
-use Rattle.entry.specs.Way.{Way, NotHere, Enter}
+use Rattle.entry.specs.Way.{Way, Barred, Enter}
 use Rattle.entry.proofs.Keeps as entry
 use Rattle.entry.proofs.Targets.{target-is-one}
 use Rattle.interrupts.specs.Check as interrupt
 use Rattle.interrupts.specs.Kind.{Kind, serror, fiq, irq, mask}
 use Rattle.interrupts.specs.Takeable.{virtualPending, pending, masked, takeable}
 use Rattle.interrupts.specs.declared.exception.Exception.{Exception}
-use Rattle.interrupts.specs.declared.exception.Exception.the-variants.{Synchronous, SError, Fiq, Irq, VirtualSError, VirtualFiq, VirtualIrq}
+use Rattle.interrupts.specs.declared.exception.Exception.the-variants.{Synchronous, SError, Fiq, Irq}
+use Rattle.interrupts.specs.declared.exception.Exception.the-variants.{VirtualSError, VirtualFiq, VirtualIrq}
 use Rattle.interrupts.proofs.Keeps as interrupts
 use Rattle.interrupts.proofs.Laws.{found-cases}
 use Rattle.interrupts.proofs.Targets as targets
 use Rattle.banked.specs.Cell.{cell}
-use Rattle.rules.specs.Event.{INTERRUPT-CHECK, BANKED-READ, BANKED-WRITE, NOTE}
 use Rattle.rules.specs.declared.event.Event.{Event}
 use Rattle.rules.specs.Refusal.{unknownMode, notGood, refusal}
-use Rattle.rules.specs.Step.{Read, Put, takenBy, checked, doneAction, vaCleared, blockAfter, after}
-use Rattle.rules.proofs.Deciding.{known-code}
+use Rattle.rules.specs.Step.{takenBy, eventWay, interruptWay, checkedIn, doneAction, vaCleared, blockAfter, after}
+use Rattle.rules.proofs.Carrying.{va-cases}
+use Rattle.rules.proofs.Deciding.{known-code, by-code}
 use Rattle.rules.proofs.Rows.{Passed, passed}
 use Rattle.rules.proofs.Sound.{write-a, inside-registers}
 use Rattle.machine.proofs.Leaving.{left}
@@ -68,30 +69,17 @@ module _ (b : List ℕ) (size : length b ≡ BLOCK-SIZE) (by : Bytes b) where
       × (Bytes v
       × ((word v CPSR ≡ word b CPSR) × ((word v SCR ≡ word b SCR) × (HCR-TGE (word v HCR) ≡ HCR-TGE (word b HCR)))))
 
-  alike-self : Alike b
-  alike-self = (size, (by, (refl, (refl, refl))))
-
   pub alike-cleared : (x : Exception) → Alike (vaCleared b x)
-  alike-cleared Synchronous = alike-self
-  alike-cleared SError = alike-self
-  alike-cleared Fiq = alike-self
-  alike-cleared Irq = alike-self
-  alike-cleared VirtualSError =
-      let fits : without 8 (word b HCR) < 2 ^ 32 = let l = spelt-fits b (4 * HCR) by in omega arith in (
-        length-put b HCR (without 8 (word b HCR)) ∙ size,
-        (
-          bytes-put b HCR (without 8 (word b HCR)) by,
-          (
-            word-put-other b HCR (without 8 (word b HCR)) CPSR (λ e. eqb-false HCR CPSR refl e),
-            (
-              word-put-other b HCR (without 8 (word b HCR)) SCR (λ e. eqb-false HCR SCR refl e),
-              ap HCR-TGE (word-put-same b HCR (without 8 (word b HCR)) (omega arith) fits) ∙ tge-kept (word b HCR),
-            ),
-          ),
-        ),
+  alike-cleared x =
+      let hcr = without 8 (word b HCR) in
+      let fits : hcr < 2 ^ 32 = let l = spelt-fits b (4 * HCR) by in omega arith in
+      let same : HCR-TGE (word (put b HCR hcr) HCR) ≡ HCR-TGE (word b HCR) =
+      ap HCR-TGE (word-put-same b HCR hcr (omega arith) fits) ∙ tge-kept (word b HCR) in
+      let kept : (q : ℕ) → (HCR ≡ q → ⊥) → word (put b HCR hcr) q ≡ word b q = word-put-other b HCR hcr in
+      va-cases Alike b x (size, (by, (refl, (refl, refl)))) (
+        length-put b HCR hcr ∙ size,
+        (bytes-put b HCR hcr by, (kept CPSR (eqb-false HCR CPSR refl), (kept SCR (eqb-false HCR SCR refl), same))),
       )
-  alike-cleared VirtualFiq = alike-self
-  alike-cleared VirtualIrq = alike-self
 
   -- an exception that is taken to a mode that may stand there
   taken-good : (x : Exception) (to offset link : ℕ) → Good (word b CPSR) (word b SCR) (word b HCR) → isTarget to ≡ true
@@ -113,19 +101,19 @@ module _ (b : List ℕ) (size : length b ≡ BLOCK-SIZE) (by : Bytes b) where
 
   -- by the way that the exception goes
   abbrev StandsWay : Way → Type 0
-  StandsWay NotHere = Unit {0}
+  StandsWay (Barred n) = Unit {0}
   StandsWay (Enter to offset link) =
       (isTarget to ≡ true)
       × (entry.mayStand (mode-field (word b CPSR)) to (SCR-NS (word b SCR)) (HCR-TGE (word b HCR)) ≡ true)
 
   way-good : (x : Exception) (w : Way) → fault b ≡ DONE → StandsWay w → fault (blockAfter b (takenBy x w)) ≡ DONE
-  way-good x NotHere f h = f
+  way-good x (Barred n) f h = f
   way-good x (Enter to offset link) f h = taken-good x to offset link (goods b f) (h .0) (h .1)
 
   -- where each exception goes it may stand
   synchronous-stands : (code a : ℕ) → fault b ≡ DONE → isSynchronous code ≡ true
       → synchronous.notHere code a (word b CPSR) (word b SCR) ≡ false
-      → StandsWay (synchronous.way code a (word b CPSR) (word b SCR) (word b HCR) (word b PC))
+      → StandsWay (eventWay b code a)
   unfolding synchronous.way
   synchronous-stands code a f s n =
       rw (s, n) (
@@ -149,8 +137,9 @@ module _ (b : List ℕ) (size : length b ≡ BLOCK-SIZE) (by : Bytes b) where
       let t = and-left (not (HCR-TGE (word b HCR))) _ q in
       (targets.own-target k, interrupts.virtual-stands k (word b CPSR) (word b SCR) (word b HCR) (goods b f) t)
 
-  interrupt-stands : (x : Exception) (lines : ℕ) → fault b ≡ DONE → takeable x lines (word b CPSR) (word b SCR) (word b HCR) ≡ true
-      → StandsWay (interrupt.way x (word b CPSR) (word b SCR) (word b HCR) (word b PC))
+  interrupt-stands : (x : Exception) (lines : ℕ) → fault b ≡ DONE
+      → takeable x lines (word b CPSR) (word b SCR) (word b HCR) ≡ true
+      → StandsWay (interruptWay b x)
   unfolding interrupt.way takeable pending masked
   interrupt-stands Synchronous lines f h = tt
   interrupt-stands SError lines f h = physical-stands serror f
@@ -163,10 +152,10 @@ module _ (b : List ℕ) (size : length b ≡ BLOCK-SIZE) (by : Bytes b) where
   -- a word put at a register's place leaves the three that a block is judged by
   register-good : (p w : ℕ) → p < CPSR → fault b ≡ DONE → fault (put b p w) ≡ DONE
   unfolding fault
-  register-good p w l f =
-      rw
-      (word-put-other b p w CPSR (λ e. omega arith), word-put-other b p w SCR (λ e. omega arith), word-put-other b p w HCR (λ e. omega arith))
-      f
+  register-good p w l f = rw (other CPSR (λ e. omega arith), other SCR (λ e. omega arith), other HCR (λ e. omega arith)) f
+    where
+      other : (q : ℕ) → (p ≡ q → ⊥) → word (put b p w) q ≡ word b q
+      other = word-put-other b p w
 
 clear-fault : (b : List ℕ) → unknownMode b ≡ false → notGood b ≡ false → fault b ≡ DONE
 unfolding fault faultOf
@@ -176,40 +165,20 @@ clear-fault b k g = rw (k, g)
 done-good : (b : List ℕ) (code a w : ℕ) → Bytes b → length b ≡ BLOCK-SIZE → fault b ≡ DONE
     → Passed b (record { code = code; a = a; b = w })
     → fault (blockAfter b (doneAction b (record { code = code; a = a; b = w }))) ≡ DONE
-unfolding doneAction
 done-good b code a w bytes size f p =
-    by (code is INTERRUPT-CHECK) (code is BANKED-READ) (code is BANKED-WRITE) (code is NOTE) refl refl refl refl
-  where
-    by : (t9 t10 t11 t12 : Bool) → (code is INTERRUPT-CHECK) ≡ t9 → (code is BANKED-READ) ≡ t10
-        → (code is BANKED-WRITE) ≡ t11 → (code is NOTE) ≡ t12
-        → fault
-        (blockAfter b
-        (if t9 then
-        checked a (word b CPSR) (word b SCR) (word b HCR) (word b PC)
-        (interrupt.found a (word b CPSR) (word b SCR) (word b HCR))
-        else
-        if t10 then Read (cell a) else
-        if t11 then Put (cell a) w else
-        if t12 then Put a w else
-        takenBy Synchronous (synchronous.way code a (word b CPSR) (word b SCR) (word b HCR) (word b PC))))
-        ≡ DONE
-    by true t10 t11 t12 e9 e10 e11 e12 =
-        found-cases
-        (λ x. fault (blockAfter b (checked a (word b CPSR) (word b SCR) (word b HCR) (word b PC) x)) ≡ DONE)
-        a (word b CPSR) (word b SCR) (word b HCR) f
-        (λ x n t.
-        way-good b size bytes x (interrupt.way x (word b CPSR) (word b SCR) (word b HCR) (word b PC)) f
-        (interrupt-stands b size bytes x a f t))
-    by false true t11 t12 e9 e10 e11 e12 = f
-    by false false true t12 e9 e10 e11 e12 =
-        let e = eqb-true code BANKED-WRITE e11 in
-        register-good b size bytes (cell a) w (inside-registers a (write-a a w (rw e at (p .event))) (rw e at (p .register))) f
-    by false false false true e9 e10 e11 e12 =
-        let e = eqb-true code NOTE e12 in clear-fault (put b a w) (rw e at (p .noted-mode)) (rw e at (p .noted-good))
-    by false false false false e9 e10 e11 e12 =
-        let y = known-code code a w (p .event) e9 e10 e11 e12 in
-        way-good b size bytes Synchronous (synchronous.way code a (word b CPSR) (word b SCR) (word b HCR) (word b PC)) f
-        (synchronous-stands b size bytes code a f y (rw y at (p .here)))
+    by-code (λ x. fault (blockAfter b x) ≡ DONE) b code a w
+    (λ e.
+    found-cases (λ x. fault (blockAfter b (checkedIn b a x)) ≡ DONE) a (word b CPSR) (word b SCR) (word b HCR) f
+    (λ x n t. way-good b size bytes x (interruptWay b x) f (interrupt-stands b size bytes x a f t)))
+    (λ e. f)
+    (λ e.
+    register-good b size bytes (cell a) w
+    (inside-registers a (write-a a w (rw e at (p .event))) (rw e at (p .register))) f)
+    (λ e. clear-fault (put b a w) (rw e at (p .noted-mode)) (rw e at (p .noted-good)))
+    (λ o.
+    let y = known-code code a w (p .event) o in
+    way-good b size bytes Synchronous (eventWay b code a) f
+    (synchronous-stands b size bytes code a f y (rw y at (p .here))))
 
 -- a done step on a good block leaves a good block; a block that is not good is always refused
 pub good-stays : (b : List ℕ) (e : Event) → Bytes b → refusal b e ≡ DONE → (fault b ≡ DONE) × (fault (after b e) ≡ DONE)

@@ -1,39 +1,42 @@
 -- What a caller of the step expects: it keeps the block's length, bytes stay bytes, and number and value are words.
-use mathlib.Core.Path.{_≡_, refl, sym, ap, _∙_}
-use mathlib.Core.Bool.{Bool, true, false, not, _&&_, _||_}
+use mathlib.Core.Path.{_≡_, refl, sym, _∙_}
+use mathlib.Core.Bool.{Bool, true, false, not, _&&_}
 use mathlib.Core.List.{List, [], _∷_}
-use Prim.Native.Nat.{ℕ, _+_, _*_, _^_, _<_, _≤_}
+use Prim.Native.Nat.{ℕ, _*_, _^_, _<_}
 use native.Mathlib.Omega.{arith}
-use lib.Dec.{lit<}
-use borrow.Author.Tests.{eqb-true}
+use lib.Dec.{ltb, lit<}
+use borrow.Author.Tests.{eqb-true, ltb-true, lt-ltb}
 use lib.ListN.{length}
 use Rattle.words.specs.Word.{word, put, Bytes}
 use Rattle.words.proofs.Laws.{length-put, bytes-put, spelt-fits}
 use Rattle.state.specs.Choice.{if_then_else_, _is_, Row, firstOf}
 use Rattle.state.specs.Field.{mode-field, without}
-use Rattle.state.specs.Mode.{HYP, MONITOR, spsrPlace, lrPlace}
-use Rattle.state.specs.Number.{DONE, NO-RIGHT}
-use Rattle.state.specs.Place.{CPSR, PC, SCR, HCR}
+use Rattle.state.specs.Mode.{HYP, MONITOR}
+use Rattle.state.specs.Number.{DONE}
+use Rattle.state.specs.Place.{CPSR, SCR, HCR}
 use Rattle.state.specs.State.{secure}
+use Rattle.state.proofs.Test.{and-left, and-right, both}
 use Rattle.entry.specs.Enter.{nsCleared, written, entered}
 use Rattle.entry.specs.Code.{isSynchronous}
 use Rattle.entry.specs.Route as synchronous
-use Rattle.entry.specs.Way.{Way, NotHere, Enter}
+use Rattle.entry.specs.Way.{Way, Barred, Enter}
 use Rattle.entry.proofs.Targets.{chosen}
 use Rattle.interrupts.specs.Check as interrupt
-use Rattle.interrupts.specs.Exception.{which}
 use Rattle.interrupts.proofs.Laws.{found-cases}
 use Rattle.banked.specs.Cell.{cell}
+use Rattle.interrupts.specs.Exception.{which}
 use Rattle.interrupts.specs.declared.exception.Exception.{Exception}
-use Rattle.interrupts.specs.declared.exception.Exception.the-variants.{Synchronous, SError, Fiq, Irq, VirtualSError, VirtualFiq, VirtualIrq}
+use Rattle.interrupts.specs.declared.exception.Exception.the-variants.{Synchronous, SError, Fiq, Irq}
+use Rattle.interrupts.specs.declared.exception.Exception.the-variants.{VirtualSError, VirtualFiq, VirtualIrq}
 use Rattle.banked.specs.Right.{denied, right}
-use Rattle.rules.specs.Event.{INTERRUPT-CHECK, BANKED-READ, BANKED-WRITE, NOTE}
 use Rattle.rules.specs.declared.event.Event.{Event}
 use Rattle.rules.specs.Parts.{Sound}
 use Rattle.rules.specs.Refusal.{rows, refusal}
-use Rattle.rules.specs.Step.{Action, Refuse, Take, Quiet, Read, Put, takenBy, checked, doneAction, vaCleared, answerTo, blockAfter, action, answer, after}
+use Rattle.rules.specs.Step.{Action, Refuse, Take, Quiet, Read, Put, takenBy, eventWay, interruptWay, checkedIn}
+use Rattle.rules.specs.Step.{doneAction, vaCleared, answerTo, blockAfter, action, answer, after}
 use Rattle.rules.specs.Verdict.{value}
-use Rattle.rules.proofs.Deciding.{known-code}
+use Rattle.rules.proofs.Carrying.{va-cases}
+use Rattle.rules.proofs.Deciding.{known-code, by-code}
 use Rattle.rules.proofs.Rows.{Passed, passed}
 use Rattle.rules.proofs.Sound.{action-sound, target-small}
 
@@ -52,13 +55,7 @@ module _ (P : List ℕ → Type 0) (kept : (b : List ℕ) (p w : ℕ) → P b �
   entered-keeps b to offset link h = kept _ _ _ (kept _ _ _ (kept _ _ _ (kept _ _ _ (ns-keeps b to h))))
 
   va-keeps : (b : List ℕ) (x : Exception) → P b → P (vaCleared b x)
-  va-keeps b Synchronous h = h
-  va-keeps b SError h = h
-  va-keeps b Fiq h = h
-  va-keeps b Irq h = h
-  va-keeps b VirtualSError h = kept b HCR (without 8 (word b HCR)) h
-  va-keeps b VirtualFiq h = h
-  va-keeps b VirtualIrq h = h
+  va-keeps b x h = va-cases P b x h (kept b HCR (without 8 (word b HCR)) h)
 
   pub action-keeps : (b : List ℕ) (x : Action) → P b → P (blockAfter b x)
   action-keeps b (Refuse n) h = h
@@ -86,94 +83,59 @@ unfolding right
 right-number p cpsr scr = chosen IsNumber (denied p (mode-field cpsr) (secure cpsr scr)) (lit< tt) (lit< tt)
 
 -- the first row that applies has a number of one of the rows
-abbrev Numbered : List Row → Type 0
-Numbered [] = Unit {0}
-Numbered (r ∷ rs) = IsNumber (r .number) × Numbered rs
+abbrev numbered : List Row → Bool
+numbered [] = true
+numbered (r ∷ rs) = ltb (r .number) 8 && numbered rs
 
-first-number : (rs : List Row) (last : ℕ) → Numbered rs → IsNumber last → IsNumber (firstOf rs last)
+first-number : (rs : List Row) (last : ℕ) → numbered rs ≡ true → IsNumber last → IsNumber (firstOf rs last)
 first-number [] last h l = l
-first-number (r ∷ rs) last h l = chosen IsNumber (r .applies) (h .0) (first-number rs last (h .1) l)
+first-number (r ∷ rs) last h l =
+    chosen IsNumber (r .applies) (ltb-true (r .number) 8 (and-left (ltb (r .number) 8) (numbered rs) h))
+    (first-number rs last (and-right (ltb (r .number) 8) (numbered rs) h) l)
 
 refusal-number : (b : List ℕ) (e : Event) → IsNumber (refusal b e)
 unfolding refusal
 refusal-number b e =
-    first-number (rows b e) DONE (
-      lit< tt,
-      (
-        lit< tt,
-        (
-          lit< tt,
-          (
-            lit< tt,
-            (
-              lit< tt,
-              (lit< tt, (right-number (cell (e .a)) (word b CPSR) (word b SCR), (lit< tt, (lit< tt, tt)))),
-            ),
-          ),
-        ),
-      ),
-    )
-    (lit< tt)
+    let r = right (cell (e .a)) (word b CPSR) (word b SCR) in
+    let small = lt-ltb r 8 (right-number (cell (e .a)) (word b CPSR) (word b SCR)) in
+    first-number (rows b e) DONE (both {a = ltb r 8} small refl) (lit< tt)
+
+-- a way that is not barred
+abbrev pub Enters : Way → Type 0
+Enters (Barred n) = ⊥
+Enters (Enter to offset link) = Unit {0}
+
+pub interrupt-enters : (x : Exception) (cpsr scr hcr pc : ℕ) → (x ≡ Synchronous → ⊥) → Enters (interrupt.way x cpsr scr hcr pc)
+unfolding interrupt.way
+interrupt-enters Synchronous cpsr scr hcr pc n = n refl
+interrupt-enters SError cpsr scr hcr pc n = tt
+interrupt-enters Fiq cpsr scr hcr pc n = tt
+interrupt-enters Irq cpsr scr hcr pc n = tt
+interrupt-enters VirtualSError cpsr scr hcr pc n = tt
+interrupt-enters VirtualFiq cpsr scr hcr pc n = tt
+interrupt-enters VirtualIrq cpsr scr hcr pc n = tt
 
 -- what a done step comes to is answered with DONE
-way-number : (b : List ℕ) (x : Exception) (w : Way) → (w ≡ NotHere → ⊥) → answerTo b (takenBy x w) .number ≡ DONE
-way-number b x NotHere n = absurd (n refl)
-way-number b x (Enter to offset link) n = refl
-
-pub interrupt-enters : (x : Exception) (cpsr scr hcr pc : ℕ) → (x ≡ Synchronous → ⊥) → interrupt.way x cpsr scr hcr pc ≡ NotHere → ⊥
-unfolding interrupt.way
-interrupt-enters Synchronous cpsr scr hcr pc n e = n refl
-interrupt-enters SError cpsr scr hcr pc n e = let z : _≡_ {A = ℕ} 0 1 = cc in omega arith
-interrupt-enters Fiq cpsr scr hcr pc n e = let z : _≡_ {A = ℕ} 0 1 = cc in omega arith
-interrupt-enters Irq cpsr scr hcr pc n e = let z : _≡_ {A = ℕ} 0 1 = cc in omega arith
-interrupt-enters VirtualSError cpsr scr hcr pc n e = let z : _≡_ {A = ℕ} 0 1 = cc in omega arith
-interrupt-enters VirtualFiq cpsr scr hcr pc n e = let z : _≡_ {A = ℕ} 0 1 = cc in omega arith
-interrupt-enters VirtualIrq cpsr scr hcr pc n e = let z : _≡_ {A = ℕ} 0 1 = cc in omega arith
+way-number : (b : List ℕ) (x : Exception) (w : Way) → Enters w → answerTo b (takenBy x w) .number ≡ DONE
+way-number b x (Barred n) h = absurd h
+way-number b x (Enter to offset link) h = refl
 
 done-number : (b : List ℕ) (code a w : ℕ) → Passed b (record { code = code; a = a; b = w })
     → answerTo b (doneAction b (record { code = code; a = a; b = w })) .number ≡ DONE
-unfolding doneAction synchronous.way
+unfolding synchronous.way
 done-number b code a w p =
-    by (code is INTERRUPT-CHECK) (code is BANKED-READ) (code is BANKED-WRITE) (code is NOTE) refl refl refl refl
+    by-code (λ x. answerTo b x .number ≡ DONE) b code a w
+    (λ e.
+    found-cases (λ f. answerTo b (checkedIn b a f) .number ≡ DONE) a (word b CPSR) (word b SCR) (word b HCR) refl
+    (λ x n t. way-number b x (interruptWay b x) (interrupt-enters x _ _ _ _ n)))
+    (λ e. refl) (λ e. refl) (λ e. refl)
+    (λ o.
+    let y = known-code code a w (p .event) o in
+    way-number b Synchronous (eventWay b code a) (enters y (rw y at (p .here))))
   where
     enters : isSynchronous code ≡ true → synchronous.notHere code a (word b CPSR) (word b SCR) ≡ false
-        → synchronous.way code a (word b CPSR) (word b SCR) (word b HCR) (word b PC) ≡ NotHere → ⊥
-    enters y n e =
-        let q : Enter (synchronous.target code a (word b CPSR) (word b SCR) (word b HCR))
-        (synchronous.offset code a (word b CPSR) (word b SCR) (word b HCR))
-        (synchronous.link code a (word b CPSR) (word b SCR) (word b HCR) (word b PC))
-        ≡ NotHere = rw (y, n) at e in
-        let z : _≡_ {A = ℕ} 0 1 = cc in
-        omega arith
-
-    by : (t9 t10 t11 t12 : Bool) → (code is INTERRUPT-CHECK) ≡ t9 → (code is BANKED-READ) ≡ t10
-        → (code is BANKED-WRITE) ≡ t11 → (code is NOTE) ≡ t12
-        → answerTo b
-        (if t9 then
-        checked a (word b CPSR) (word b SCR) (word b HCR) (word b PC)
-        (interrupt.found a (word b CPSR) (word b SCR) (word b HCR))
-        else
-        if t10 then Read (cell a) else
-        if t11 then Put (cell a) w else
-        if t12 then Put a w else
-        takenBy Synchronous (synchronous.way code a (word b CPSR) (word b SCR) (word b HCR) (word b PC)))
-        .number
-        ≡ DONE
-    by true t10 t11 t12 e9 e10 e11 e12 =
-        found-cases
-        (λ f. answerTo b (checked a (word b CPSR) (word b SCR) (word b HCR) (word b PC) f) .number ≡ DONE)
-        a (word b CPSR) (word b SCR) (word b HCR) refl
-        (λ x n t.
-        way-number b x (interrupt.way x (word b CPSR) (word b SCR) (word b HCR) (word b PC))
-        (interrupt-enters x (word b CPSR) (word b SCR) (word b HCR) (word b PC) n))
-    by false true t11 t12 e9 e10 e11 e12 = refl
-    by false false true t12 e9 e10 e11 e12 = refl
-    by false false false true e9 e10 e11 e12 = refl
-    by false false false false e9 e10 e11 e12 =
-        let y = known-code code a w (p .event) e9 e10 e11 e12 in
-        let n : synchronous.notHere code a (word b CPSR) (word b SCR) ≡ false = rw y at (p .here) in
-        way-number b Synchronous (synchronous.way code a (word b CPSR) (word b SCR) (word b HCR) (word b PC))
-        (enters y n)
+        → Enters (eventWay b code a)
+    enters y n = rw (y, n) tt
 
 -- a done step answers DONE, and a refused one its number
 pub number-is : (b : List ℕ) (e : Event) → answer b e .number ≡ refusal b e

@@ -1,19 +1,29 @@
 -- What a step leaves, by the code of its event.
-use mathlib.Core.Path.{_≡_, ap, _∙_}
+use mathlib.Core.Path.{_≡_, refl, ap, _∙_}
+use mathlib.Core.Bool.{true, false}
 use mathlib.Core.List.{List}
 use Prim.Native.Nat.{ℕ}
 use lib.ListN.{length}
 use borrow.Author.Tests.{eq-eqb, ne-eqb}
-use Rattle.words.specs.Word.{put}
+use Rattle.words.specs.Word.{word, put}
 use Rattle.state.specs.Choice.{_is_}
 use Rattle.state.specs.Number.{DONE}
-use Rattle.state.specs.Place.{BLOCK-SIZE}
+use Rattle.state.specs.Place.{BLOCK-SIZE, CPSR, SCR}
 use Rattle.banked.specs.Cell.{cell}
 use Rattle.rules.specs.Event.{BANKED-READ, BANKED-WRITE, NOTE}
+use Rattle.entry.specs.Code.{INTERRUPT-CHECK, isSynchronous}
+use Rattle.entry.specs.Route as synchronous
+use Rattle.state.proofs.Test.{true-is-not-false}
+use Rattle.rules.proofs.Deciding.{by-code}
+use Rattle.rules.proofs.Rows.{passed}
+use Rattle.machine.specs.Claims.{target, offset, link, EntersAsRouted}
 use Rattle.rules.specs.declared.event.Event.{Event}
 use Rattle.rules.specs.Refusal.{refusal}
-use Rattle.rules.specs.Step.{ANSWER-SIZE, numberReturned, blockLeft, answerLeft, answerBytes, doneAction, action, blockAfter, answer, after}
-use Rattle.rules.specs.Verdict.{refusedWith}
+use Rattle.rules.specs.Step.{ANSWER-SIZE, Take, doneAction, action, answerTo, blockAfter, answer, after}
+use Rattle.rules.specs.Step.{numberReturned, blockLeft, answerLeft, answerBytes}
+use Rattle.rules.specs.Verdict.{answerFor, refusedWith}
+use Rattle.rules.specs.declared.verdict.Verdict.the-variants.{Register, Written}
+use Rattle.interrupts.specs.declared.exception.Exception.the-variants.{Synchronous}
 
 -- a refused step: its number, the value 0, and every byte
 pub refused-leaves : (b : List ℕ) (e : Event) → (refusal b e ≡ DONE → ⊥)
@@ -29,6 +39,35 @@ module _ (b : List ℕ) (e : Event) (done : refusal b e ≡ DONE) where
   pub left : after b e ≡ blockAfter b (doneAction b e)
   unfolding after
   left = ap (blockAfter b) done-is
+
+  told : answer b e ≡ answerTo b (doneAction b e)
+  unfolding answer
+  told = ap (answerTo b) done-is
+
+  pub read-tells : e .code ≡ BANKED-READ → answer b e ≡ answerFor (Register (word b (cell (e .a))))
+  unfolding doneAction
+  read-tells c = told ∙ rw c
+
+  pub write-tells : e .code ≡ BANKED-WRITE → answer b e ≡ answerFor (Written (e .b))
+  unfolding doneAction
+  write-tells c = told ∙ rw c
+
+  pub note-tells : e .code ≡ NOTE → answer b e ≡ answerFor (Written (e .b))
+  unfolding doneAction
+  note-tells c = told ∙ rw c
+
+  -- a synchronous event that no row refuses goes its way
+  pub enters-as-routed : isSynchronous (e .code) ≡ true → EntersAsRouted b e
+  unfolding synchronous.way
+  enters-as-routed y =
+      let here : synchronous.notHere (e .code) (e .a) (word b CPSR) (word b SCR) ≡ false = rw y at (passed b e done .here) in
+      let goes = by-code (λ x. x ≡ Take Synchronous (target b e) (offset b e) (link b e)) b (e .code) (e .a) (e .b)
+      (λ c. absurd (not-one INTERRUPT-CHECK refl c)) (λ c. absurd (not-one BANKED-READ refl c))
+      (λ c. absurd (not-one BANKED-WRITE refl c)) (λ c. absurd (not-one NOTE refl c)) (λ o. rw (y, here)) in
+      record { answers = told ∙ ap (answerTo b) goes; leaves = left ∙ ap (blockAfter b) goes }
+    where
+      not-one : (k : ℕ) → isSynchronous k ≡ false → e .code ≡ k → ⊥
+      not-one k n c = true-is-not-false y (ap isSynchronous c ∙ n)
 
   pub read-leaves : e .code ≡ BANKED-READ → after b e ≡ b
   unfolding doneAction

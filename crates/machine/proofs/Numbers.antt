@@ -16,7 +16,8 @@ first-row : (rs : List Row) → FirstRow rs (firstOf rs DONE)
 first-row [] = none
 first-row (r ∷ rs) = by (r .applies) refl (first-row rs)
   where
-    by : (t : Bool) → r .applies ≡ t → FirstRow rs (firstOf rs DONE) → FirstRow (r ∷ rs) (if t then r .number else firstOf rs DONE)
+    by : (t : Bool) → r .applies ≡ t → FirstRow rs (firstOf rs DONE)
+        → FirstRow (r ∷ rs) (if t then r .number else firstOf rs DONE)
     by true e h = here e
     by false e h = later e h
 

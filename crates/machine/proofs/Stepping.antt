@@ -1,21 +1,23 @@
 -- The step put together: what was decided is carried out; over an answer buffer, a wrong size leaves both buffers.
-use mathlib.Core.Path.{_≡_, refl, sym, ap, _∙_}
-use mathlib.Core.Bool.{Bool, true, false, _&&_}
+use mathlib.Core.Path.{_≡_, refl, _∙_}
+use mathlib.Core.Bool.{false}
 use mathlib.Core.List.{List}
-use Prim.Native.Nat.{ℕ, zero, suc, _<_, _^_}
+use Prim.Native.Nat.{ℕ, _<_, _^_}
 use lib.ListN.{length}
 use borrow.Author.Tests.{eq-eqb, ne-eqb}
-use Rattle.state.specs.Choice.{if_then_else_, _is_}
+use Rattle.state.specs.Choice.{_is_}
 use Rattle.state.specs.Number.{DONE, BAD-SIZE}
 use Rattle.state.specs.Place.{BLOCK-SIZE}
 use Rattle.state.specs.State.{fault}
+use Rattle.state.proofs.Sets.{Unlike, unlike-among}
+use Rattle.entry.specs.Code.{codes, isKnown}
 use Rattle.rules.specs.declared.event.Event.{Event}
-use Rattle.rules.specs.Step.{ANSWER-SIZE, Action, Refuse, action, answerTo, blockAfter, answer, after, numberReturned, blockLeft, answerLeft, answerBytes}
+use Rattle.rules.specs.Step.{ANSWER-SIZE, Action, Refuse, action, answerTo, blockAfter, answer, after, numberReturned}
+use Rattle.rules.specs.Step.{blockLeft, answerLeft, answerBytes}
 use Rattle.rules.specs.Parts.{Carried}
 use Rattle.rules.specs.Verdict.{refusedWith}
 use Rattle.rules.specs.declared.verdict.Answer.{Answer}
-use Rattle.rules.proofs.Deciding.{event, bad-size, faulty, none-of-twelve}
-use Rattle.rules.specs.Event.{isKnown}
+use Rattle.rules.proofs.Deciding.{event, bad-size, faulty}
 
 module _ (b : List ℕ) (e : Event) where
   carried-out : {x : Action} {r : Answer} {l : List ℕ} → x ≡ action b e → (r ≡ answerTo b x) × (l ≡ blockAfter b x)
@@ -23,7 +25,8 @@ module _ (b : List ℕ) (e : Event) where
   unfolding answer after
   carried-out h p = (rw (← h) (p .0), rw (← h) (p .1))
 
-  pub wrong-size : {r : Answer} → (length b ≡ BLOCK-SIZE → ⊥) → r ≡ refusedWith BAD-SIZE → (r ≡ answer b e) × (b ≡ after b e)
+  pub wrong-size : {r : Answer} → (length b ≡ BLOCK-SIZE → ⊥) → r ≡ refusedWith BAD-SIZE
+      → (r ≡ answer b e) × (b ≡ after b e)
   wrong-size {r} n h = carried-out {x = Refuse BAD-SIZE} {r = r} {l = b} (bad-size b e (ne-eqb (length b) BLOCK-SIZE n)) (h, refl)
 
   -- a fault that was found refuses
@@ -64,15 +67,11 @@ module _ (b : List ℕ) (e : Event) where
         let u = eq-eqb (length buffer) ANSWER-SIZE z in
         (rw (t, u) (p .0), (rw (t, u) (p .1 .0), rw (t, u) (p .1 .1 .0)))
 
--- what holds of the event of a code's number holds of the code
-pub at-code : (b : List ℕ) (a w : ℕ) {code k : ℕ} → code ≡ k → action b (event k a w) ≡ action b (event code a w)
-at-code b a w e = rw e
+-- what an arm carried out is the event of its code
+pub arm : (b : List ℕ) (a w : ℕ) {code k n : ℕ} {l m : List ℕ} → code ≡ k → Carried b (action b (event k a w)) n l m
+    → Carried b (action b (event code a w)) n l m
+arm b a w e h = rw e h
 
--- a code that is no arm's, as the branch knows it
-abbrev NoneTo : ℕ → ℕ → Type 0
-NoneTo zero code = Unit {0}
-NoneTo (suc k) code = NoneTo k code × (code ≡ suc k → ⊥)
-
-pub no-arm : (code : ℕ) → NoneTo 12 code → isKnown code ≡ false
-no-arm code ((((((((((((u, n1), n2), n3), n4), n5), n6), n7), n8), n9), n10), n11), n12) =
-    none-of-twelve code n1 n2 n3 n4 n5 n6 n7 n8 n9 n10 n11 n12
+-- a code that is no arm's, as the last of them knows it
+pub no-arm : (code : ℕ) → Unlike (Unit {0}) code codes → isKnown code ≡ false
+no-arm code h = unlike-among (Unit {0}) code codes h .1

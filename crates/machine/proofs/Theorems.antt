@@ -1,6 +1,7 @@
 -- What the step promises beyond its definition, each by name (docs/PROMISES.md): the numbers, what is left, the interrupt
 -- check, and what an entry leaves. The words of these statements are in specs/Claims.antt; the proofs stand in their own files.
 use mathlib.Core.Path.{_≡_, ap, _∙_}
+use mathlib.Core.Bool.{true}
 use mathlib.Core.List.{List}
 use mathlib.Core.Logic.{_↔_}
 use Prim.Native.Nat.{ℕ}
@@ -12,6 +13,7 @@ use Rattle.state.specs.Mode.{spsrPlace, lrPlace}
 use Rattle.state.specs.Number.{DONE}
 use Rattle.state.specs.Place.{BLOCK-SIZE, CPSR, PC, SCR, HCR}
 use Rattle.state.specs.State.{fault}
+use Rattle.entry.specs.Code.{isSynchronous}
 use Rattle.entry.specs.Enter.{nsCleared, cpsrAfter, controlPlace, vectorBase, vector}
 use Rattle.interrupts.specs.Exception.{order}
 use Rattle.interrupts.specs.declared.exception.Exception.{Exception}
@@ -19,9 +21,10 @@ use Rattle.banked.specs.Cell.{cell}
 use Rattle.rules.specs.Event.{INTERRUPT-CHECK, BANKED-READ, BANKED-WRITE, NOTE}
 use Rattle.rules.specs.Refusal.{rows, refusal}
 use Rattle.rules.specs.Step.{ANSWER-SIZE, Take, action, vaCleared, answer, after, answerBytes, numberReturned, blockLeft, answerLeft}
-use Rattle.rules.specs.Verdict.{refusedWith}
+use Rattle.rules.specs.Verdict.{value, refusedWith}
 use Rattle.rules.specs.declared.event.Event.{Event}
-use Rattle.machine.specs.Claims.{FirstRow, rowsLent, OneOf, TheFirst, CanBeTaken, EntersBy, Takes, TakesNothing, scrLeft, hcrLeft}
+use Rattle.machine.specs.Claims.{FirstRow, rowsLent, EntersAsRouted, OneOf, TheFirst, CanBeTaken, EntersBy, Takes}
+use Rattle.machine.specs.Claims.{TakesNothing, scrLeft, hcrLeft}
 use Rattle.machine.proofs.Checking as checking
 use Rattle.machine.proofs.Entering as entering
 use Rattle.machine.proofs.Goodness as goodness
@@ -56,7 +59,11 @@ pub good-stays : (b : List ℕ) (e : Event) → Bytes b → refusal b e ≡ DONE
 good-stays = goodness.good-stays
 
 module _ (b : List ℕ) (e : Event) (done : refusal b e ≡ DONE) where
-  -- a read changes no word
+  -- a read answers the register's word, and changes no word
+  pub read-tells : e .code ≡ BANKED-READ → answer b e ≡ record { number = DONE; value = word b (cell (e .a)) }
+  unfolding value
+  read-tells = leaving.read-tells b e done
+
   pub read-leaves : e .code ≡ BANKED-READ → after b e ≡ b
   read-leaves = leaving.read-leaves b e done
 
@@ -71,8 +78,22 @@ module _ (b : List ℕ) (e : Event) (done : refusal b e ≡ DONE) where
   pub note-leaves : e .code ≡ NOTE → after b e ≡ put b (e .a) (e .b)
   note-leaves = leaving.note-leaves b e done
 
+  -- and both answer 0
+  pub write-tells : e .code ≡ BANKED-WRITE → answer b e ≡ record { number = DONE; value = 0 }
+  unfolding value
+  write-tells = leaving.write-tells b e done
+
+  pub note-tells : e .code ≡ NOTE → answer b e ≡ record { number = DONE; value = 0 }
+  unfolding value
+  note-tells = leaving.note-tells b e done
+
   pub note-others : e .code ≡ NOTE → (q : ℕ) → (e .a ≡ q → ⊥) → word (after b e) q ≡ word b q
   note-others c q n = rw (note-leaves c) (word-put-other b (e .a) (e .b) q n)
+
+-- ---- demand 2 of codes 1 to 8: such an event that no row refuses enters as its routing says, in target, offset and link
+
+pub enters-as-routed : (b : List ℕ) (e : Event) → refusal b e ≡ DONE → isSynchronous (e .code) ≡ true → EntersAsRouted b e
+enters-as-routed = leaving.enters-as-routed
 
 -- ---- demand 2 of the interrupt check: of a step that no row refuses and whose code is 9
 
@@ -127,8 +148,8 @@ module _ (b : List ℕ) (e : Event) (bytes : Bytes b) (x : Exception) (to offset
   entry-hcr = entering.hcr b e bytes x to offset link taken
 
   -- no other word changes
-  pub entry-others : (q : ℕ) → (spsrPlace to ≡ q → ⊥) → (lrPlace to ≡ q → ⊥) → (CPSR ≡ q → ⊥) → (PC ≡ q → ⊥) → (SCR ≡ q → ⊥)
-      → (HCR ≡ q → ⊥) → word (after b e) q ≡ word b q
+  pub entry-others : (q : ℕ) → (spsrPlace to ≡ q → ⊥) → (lrPlace to ≡ q → ⊥) → (CPSR ≡ q → ⊥)
+      → (PC ≡ q → ⊥) → (SCR ≡ q → ⊥) → (HCR ≡ q → ⊥) → word (after b e) q ≡ word b q
   entry-others = entering.others b e bytes x to offset link taken
 
   -- the half-written entry: a block with the right mode and a stale saved state is not what the step leaves

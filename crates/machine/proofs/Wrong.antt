@@ -12,6 +12,7 @@ use Rattle.state.specs.Mode.{IRQ, known, el1, spsrPlace, lrPlace}
 use Rattle.state.specs.Number.{DONE}
 use Rattle.state.specs.Place.{BLOCK-SIZE, CPSR}
 use Rattle.state.specs.State.{good}
+use Rattle.entry.specs.Offset as offsets
 use Rattle.entry.specs.Enter.{nsCleared, masksAfter, cpsrAfter, vectorBase, written, entered}
 use Rattle.interrupts.specs.Check as interrupt
 use Rattle.interrupts.specs.Masking.{obeyed}
@@ -21,7 +22,8 @@ use Rattle.interrupts.specs.declared.exception.Exception.the-variants.{Irq}
 use Rattle.rules.specs.Event.{INTERRUPT-CHECK, badEvent}
 use Rattle.rules.specs.declared.event.Event.{Event}
 use Rattle.rules.specs.Refusal.{refusal}
-use Rattle.rules.specs.Step.{ANSWER-SIZE, Take, doneAction, action, answer, after, numberReturned, blockLeft, answerLeft}
+use Rattle.rules.specs.Step.{ANSWER-SIZE, Action, Take, Quiet, doneAction, action, answerTo, blockAfter, answerBytes}
+use Rattle.rules.specs.Step.{answer, after, numberReturned, blockLeft, answerLeft}
 use Rattle.rules.specs.Verdict.{value}
 use Rattle.machine.specs.Claims.{Stepper, Given, Meets}
 use Rattle.machine.proofs.Cases.{Words, block, with}
@@ -72,30 +74,38 @@ given xs =
 
 -- ---- what the step does to them
 
-quiet-done : numberReturned quiet irq-line cleared ≡ DONE
-unfolding spelt put known el1 good obeyed pending masked takeable interrupt.found badEvent refusal doneAction action answer value numberReturned
-quiet-done = refl
+quiet-step : action quiet irq-line ≡ Quiet 4
+unfolding spelt put known el1 good obeyed pending masked takeable interrupt.found badEvent refusal doneAction action
+quiet-step = refl
 
-quiet-tells : word (answerLeft quiet irq-line cleared) 1 ≡ 0
-unfolding spelt put known el1 good obeyed pending masked takeable interrupt.found badEvent refusal doneAction action answer value answerLeft
-quiet-tells = refl
-
-taking-tells : word (answerLeft taking irq-line cleared) 1 ≡ 0x31218
-unfolding spelt put known el1 good obeyed pending masked takeable interrupt.found interrupt.way badEvent refusal doneAction action answer value answerLeft
-taking-tells = refl
-
-goes : action taking irq-line ≡ Take Irq IRQ 0x18 0x8004
+goes : action taking irq-line ≡ Take Irq IRQ offsets.IRQ 0x8004
 unfolding spelt put known el1 good obeyed pending masked takeable interrupt.found interrupt.way badEvent refusal doneAction action
 goes = refl
 
+quiet-done : numberReturned quiet irq-line cleared ≡ DONE
+unfolding put answer numberReturned
+quiet-done = ap (λ (x : Action). answerTo quiet x .number) quiet-step
+
+quiet-tells : word (answerLeft quiet irq-line cleared) 1 ≡ 0
+unfolding spelt put value answer answerLeft
+quiet-tells = ap (λ (x : Action). word (answerBytes (answerTo quiet x)) 1) quiet-step
+
+taking-tells : word (answerLeft taking irq-line cleared) 1 ≡ 0x31218
+unfolding spelt put value answer answerLeft
+taking-tells = ap (λ (x : Action). word (answerBytes (answerTo taking x)) 1) goes
+
 -- the mode after the IRQ is taken is IRQ mode, and the old CPSR is saved
+left : (p : ℕ) → word (blockLeft taking irq-line cleared) p ≡ word (entered taking IRQ offsets.IRQ 0x8004) p
+unfolding put after blockLeft
+left p = ap (λ (x : Action). word (blockAfter taking x) p) goes
+
 moved : word (blockLeft taking irq-line cleared) CPSR ≡ 0x192
-unfolding spelt put known el1 spsrPlace lrPlace good nsCleared masksAfter cpsrAfter vectorBase written entered interrupt.found interrupt.way obeyed pending masked takeable badEvent refusal doneAction action after blockLeft
-moved = refl
+unfolding spelt put known el1 spsrPlace lrPlace nsCleared masksAfter cpsrAfter vectorBase written entered
+moved = left CPSR
 
 saved : word (blockLeft taking irq-line cleared) (spsrPlace IRQ) ≡ 0x13
-unfolding spelt put known el1 spsrPlace lrPlace good nsCleared masksAfter cpsrAfter vectorBase written entered interrupt.found interrupt.way obeyed pending masked takeable badEvent refusal doneAction action after blockLeft
-saved = refl
+unfolding spelt put known el1 spsrPlace lrPlace nsCleared masksAfter cpsrAfter vectorBase written entered
+saved = left (spsrPlace IRQ)
 
 stood : word taking CPSR ≡ 0x13
 unfolding spelt put
@@ -135,5 +145,5 @@ module _ (f : Stepper) (p : Meets f) where
   not-skipping-spsr h =
       let t = given (with 1 0x13) in
       let left = sym (p .leaves taking irq-line cleared t) in
-      let skipped = h taking irq-line cleared t Irq IRQ 0x18 0x8004 goes in
+      let skipped = h taking irq-line cleared t Irq IRQ offsets.IRQ 0x8004 goes in
       eqb-false 0x13 0 refl (sym saved ∙ ap (λ (b : List ℕ). word b (spsrPlace IRQ)) left ∙ skipped ∙ stale)

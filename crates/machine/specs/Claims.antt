@@ -12,11 +12,13 @@ use Rattle.state.specs.Mode.{MONITOR, HYP}
 use Rattle.state.specs.Number.{DONE, BAD-SIZE}
 use Rattle.state.specs.Place.{CPSR, PC, SCR, HCR}
 use Rattle.entry.specs.Enter.{entered}
+use Rattle.entry.specs.Route as synchronous
 use Rattle.entry.specs.Way.{Enter}
 use Rattle.interrupts.specs.Check as interrupt
 use Rattle.interrupts.specs.Takeable.{pending, masked}
 use Rattle.interrupts.specs.declared.exception.Exception.{Exception}
-use Rattle.interrupts.specs.declared.exception.Exception.the-variants.{Synchronous, SError, Fiq, Irq, VirtualSError, VirtualFiq, VirtualIrq}
+use Rattle.interrupts.specs.declared.exception.Exception.the-variants.{Synchronous, SError, Fiq, Irq}
+use Rattle.interrupts.specs.declared.exception.Exception.the-variants.{VirtualSError, VirtualFiq, VirtualIrq}
 use Rattle.rules.specs.Refusal.{rows}
 use Rattle.rules.specs.Step.{vaCleared, answer, after, sized, numberReturned, blockLeft, answerLeft}
 use Rattle.rules.specs.Verdict.{entryTo, answerFor}
@@ -70,6 +72,24 @@ module _ (b : List ℕ) (e : Event) where
     pub number : answer b e .number ≡ DONE
     pub value : answer b e .value ≡ 0
     pub leaves : after b e ≡ b
+
+-- ---- a synchronous event
+
+module _ (b : List ℕ) (e : Event) where
+  -- where the event goes, at which offset, and its link, by its routing
+  abbrev pub target : ℕ
+  target = synchronous.target (e .code) (e .a) (word b CPSR) (word b SCR) (word b HCR)
+
+  abbrev pub offset : ℕ
+  offset = synchronous.offset (e .code) (e .a) (word b CPSR) (word b SCR) (word b HCR)
+
+  abbrev pub link : ℕ
+  link = synchronous.link (e .code) (e .a) (word b CPSR) (word b SCR) (word b HCR) (word b PC)
+
+  -- answer and block are those of that entry
+  pub record EntersAsRouted : Type 0 where
+    pub answers : answer b e ≡ answerFor (entryTo Synchronous target offset)
+    pub leaves : after b e ≡ entered b target offset link
 
 -- ---- what an entry leaves
 

@@ -21,11 +21,7 @@ ghost use Rattle.rules.specs.Step.{
 use entry::code;
 use rules::answer::VALUE;
 use rules::answer::refuse;
-use rules::event::BANKED_READ;
-use rules::event::BANKED_WRITE;
 use rules::event::Event;
-use rules::event::INTERRUPT_CHECK;
-use rules::event::NOTE;
 use rules::verdict::Answer;
 use state::number;
 use state::place;
@@ -62,10 +58,10 @@ fn step_sized(block: &mut [u8], code: u32, a: u32, b: u32, buffer: &mut [u8]) ->
         code::DATA_ABORT => synchronous::data_abort(block, cpsr, scr, a, b, buffer),
         code::HYP_TRAP => synchronous::hyp_trap(block, cpsr, scr, a, b, buffer),
         code::MONITOR_TRAP => synchronous::monitor_trap(block, cpsr, scr, a, b, buffer),
-        INTERRUPT_CHECK => interrupt_check::check(block, cpsr, scr, a, b, buffer),
-        BANKED_READ => access::banked_read(block, cpsr, scr, a, b, buffer),
-        BANKED_WRITE => access::banked_write(block, cpsr, scr, a, b, buffer),
-        NOTE => access::note(block, cpsr, scr, a, b, buffer),
+        code::INTERRUPT_CHECK => interrupt_check::check(block, cpsr, scr, a, b, buffer),
+        code::BANKED_READ => access::banked_read(block, cpsr, scr, a, b, buffer),
+        code::BANKED_WRITE => access::banked_write(block, cpsr, scr, a, b, buffer),
+        code::NOTE => access::note(block, cpsr, scr, a, b, buffer),
         _ => refuse(buffer, number::BAD_EVENT),
     }
 }
@@ -112,10 +108,10 @@ fn replay_sized(block: &mut [u8], code: u32, a: u32, b: u32, buffer: &mut [u8]) 
         code::DATA_ABORT => synchronous::data_abort(block, cpsr, scr, a, b, buffer),
         code::HYP_TRAP => synchronous::hyp_trap(block, cpsr, scr, a, b, buffer),
         code::MONITOR_TRAP => synchronous::monitor_trap(block, cpsr, scr, a, b, buffer),
-        INTERRUPT_CHECK => interrupt_check::check(block, cpsr, scr, a, b, buffer),
-        BANKED_READ => access::banked_read(block, cpsr, scr, a, b, buffer),
-        BANKED_WRITE => access::banked_write(block, cpsr, scr, a, b, buffer),
-        NOTE => access::note(block, cpsr, scr, a, b, buffer),
+        code::INTERRUPT_CHECK => interrupt_check::check(block, cpsr, scr, a, b, buffer),
+        code::BANKED_READ => access::banked_read(block, cpsr, scr, a, b, buffer),
+        code::BANKED_WRITE => access::banked_write(block, cpsr, scr, a, b, buffer),
+        code::NOTE => access::note(block, cpsr, scr, a, b, buffer),
         _ => refuse(buffer, number::BAD_EVENT),
     }
 }

@@ -1,15 +1,15 @@
 -- Where a step is done no row of refusals applies.
-use mathlib.Core.Path.{_≡_, refl, sym, ap, _∙_}
+use mathlib.Core.Path.{_≡_, refl}
 use mathlib.Core.Bool.{Bool, true, false, not, _&&_}
-use mathlib.Core.List.{List, [], _∷_}
+use mathlib.Core.List.{List}
 use Prim.Native.Nat.{ℕ}
 use lib.ListN.{length}
-use borrow.Author.Tests.{eqb-true, eqb-false, not-true}
+use borrow.Author.Tests.{eqb-false, not-true}
 use Rattle.words.specs.Word.{word}
-use Rattle.state.specs.Choice.{if_then_else_, _is_, firstOf}
+use Rattle.state.specs.Choice.{if_then_else_, _is_}
 use Rattle.state.specs.Number.{DONE}
 use Rattle.state.specs.Place.{BLOCK-SIZE, NO-PLACE, CPSR, SCR}
-use Rattle.state.proofs.Test.{and-right, true-is-not-false}
+use Rattle.state.proofs.Test.{and-right}
 use Rattle.entry.specs.Code.{isSynchronous}
 use Rattle.entry.specs.Route.{notHere}
 use Rattle.banked.specs.Cell.{cell}
@@ -30,7 +30,8 @@ pub record Passed (b : List ℕ) (e : Event) : Type 0 where
   pub noted-good : (e .code is NOTE && notGood (noted b e)) ≡ false
 
 -- a row whose number is not DONE did not apply, if the answer is DONE
-past : (t : Bool) {n rest : ℕ} → (t ≡ true → n ≡ DONE → ⊥) → (if t then n else rest) ≡ DONE → (t ≡ false) × (rest ≡ DONE)
+past : (t : Bool) {n rest : ℕ} → (t ≡ true → n ≡ DONE → ⊥) → (if t then n else rest) ≡ DONE
+    → (t ≡ false) × (rest ≡ DONE)
 past true h e = absurd (h refl e)
 past false h e = (refl, e)
 

@@ -1,14 +1,13 @@
 -- What a step that no row refuses comes to can be carried out: its places lie in the block, its target has a saved state.
-use mathlib.Core.Path.{_≡_, refl, sym, ap, _∙_}
-use mathlib.Core.Bool.{Bool, true, false, not, _&&_, _||_, or-false}
-use mathlib.Core.List.{List, [], _∷_}
+use mathlib.Core.Path.{_≡_, refl}
+use mathlib.Core.Bool.{Bool, true, false, not, _||_}
+use mathlib.Core.List.{List}
 use Prim.Native.Nat.{ℕ, _<_, _^_}
 use native.Mathlib.Omega.{arith}
 use lib.Dec.{leb, ltb}
-use lib.ListN.{length}
 use borrow.Author.Tests.{eqb-true, eqb-false, leb-false, ltb-true}
 use Rattle.words.specs.Word.{word}
-use Rattle.state.specs.Choice.{if_then_else_, _is_, _among_, Row, firstOf}
+use Rattle.state.specs.Choice.{if_then_else_, _is_}
 use Rattle.state.specs.Mode.{targets, isTarget}
 use Rattle.state.specs.Number.{DONE}
 use Rattle.state.proofs.Test.{at-one}
@@ -16,31 +15,33 @@ use Rattle.state.specs.Place.{PLACES, NO-PLACE, CPSR, PC, SCR, HCR}
 use Rattle.entry.specs.Code.{isSynchronous}
 use Rattle.entry.specs.Route.{wrap}
 use Rattle.entry.specs.Route as synchronous
-use Rattle.entry.specs.Way.{Way, NotHere, Enter}
-use Rattle.entry.proofs.Targets.{target-is-one}
+use Rattle.entry.specs.Way.{Way, Barred, Enter}
+use Rattle.entry.proofs.Targets.{chosen, target-is-one}
 use Rattle.entry.proofs.Targets as entry
 use Rattle.interrupts.specs.Check as interrupt
 use Rattle.interrupts.specs.Kind.{Kind, serror, fiq, irq}
 use Rattle.interrupts.specs.declared.exception.Exception.{Exception}
-use Rattle.interrupts.specs.declared.exception.Exception.the-variants.{Synchronous, SError, Fiq, Irq, VirtualSError, VirtualFiq, VirtualIrq}
+use Rattle.interrupts.specs.declared.exception.Exception.the-variants.{Synchronous, SError, Fiq, Irq}
+use Rattle.interrupts.specs.declared.exception.Exception.the-variants.{VirtualSError, VirtualFiq, VirtualIrq}
 use Rattle.interrupts.specs.declared.check.Found.{Found}
 use Rattle.interrupts.specs.declared.check.Found.the-variants.{Nothing, First}
 use Rattle.interrupts.proofs.Targets as interrupts
 use Rattle.banked.specs.Cell.{cell}
 use Rattle.banked.proofs.Cells.{cell-inside}
-use Rattle.rules.specs.Event.{Event, INTERRUPT-CHECK, BANKED-READ, BANKED-WRITE, NOTE, badEvent}
+use Rattle.rules.specs.Event.{Event, BANKED-READ, BANKED-WRITE, NOTE, CELL-VALUES, badEvent}
 use Rattle.rules.specs.Parts.{Sound}
 use Rattle.rules.specs.Refusal.{refusal}
+use Rattle.rules.proofs.Deciding.{by-code}
 use Rattle.rules.proofs.Rows.{Passed, passed}
-use Rattle.rules.specs.Step.{Action, Refuse, Take, Quiet, Read, Put, takenBy, checked, doneAction, action}
+use Rattle.rules.specs.Step.{Refuse, Take, takenBy, eventWay, foundIn, checked, doneAction, action}
 
 -- a way that is sound
 abbrev pub SoundWay : Way → Type 0
-SoundWay NotHere = Unit {0}
+SoundWay (Barred n) = Unit {0}
 SoundWay (Enter to offset link) = Sound (Take Synchronous to offset link)
 
 taken-sound : (x : Exception) (w : Way) → SoundWay w → Sound (takenBy x w)
-taken-sound x NotHere h = tt
+taken-sound x (Barred n) h = tt
 taken-sound x (Enter to offset link) h = h
 
 -- every return address wraps at 2^32
@@ -54,14 +55,7 @@ synchronous-link code a cpsr scr hcr pc = wrapped _ _
 synchronous-sound : (code a cpsr scr hcr pc : ℕ) → SoundWay (synchronous.way code a cpsr scr hcr pc)
 unfolding synchronous.way
 synchronous-sound code a cpsr scr hcr pc =
-    by (not (isSynchronous code) || synchronous.notHere code a cpsr scr)
-  where
-    by : (t : Bool)
-        → SoundWay (if t then NotHere else
-        Enter (synchronous.target code a cpsr scr hcr) (synchronous.offset code a cpsr scr hcr)
-        (synchronous.link code a cpsr scr hcr pc))
-    by true = tt
-    by false = (
+    chosen SoundWay (not (isSynchronous code) || synchronous.notHere code a cpsr scr) tt (
       target-is-one code a cpsr scr hcr,
       entry.offset-small code a cpsr scr hcr,
       synchronous-link code a cpsr scr hcr pc,
@@ -85,7 +79,8 @@ interrupt-sound VirtualIrq cpsr scr hcr pc = virtual-sound irq pc
 
 checked-sound : (lines cpsr scr hcr pc : ℕ) (f : Found) → Sound (checked lines cpsr scr hcr pc f)
 checked-sound lines cpsr scr hcr pc Nothing = tt
-checked-sound lines cpsr scr hcr pc (First x) = taken-sound x (interrupt.way x cpsr scr hcr pc) (interrupt-sound x cpsr scr hcr pc)
+checked-sound lines cpsr scr hcr pc (First x) =
+    taken-sound x (interrupt.way x cpsr scr hcr pc) (interrupt-sound x cpsr scr hcr pc)
 
 -- the operands of a well formed event
 or-left : (x y : Bool) → (x || y) ≡ false → x ≡ false
@@ -95,54 +90,36 @@ or-left false y h = refl
 a-below : (k a : ℕ) (t : Bool) → (leb k a || t) ≡ false → a < k
 a-below k a t h = leb-false k a (or-left (leb k a) t h)
 
-pub read-a : (a w : ℕ) → badEvent BANKED-READ a w ≡ false → a < 64
+pub read-a : (a w : ℕ) → badEvent BANKED-READ a w ≡ false → a < CELL-VALUES
 unfolding badEvent
-read-a a w h = a-below 64 a (not (w is 0)) h
+read-a a w h = a-below CELL-VALUES a (not (w is 0)) h
 
-pub write-a : (a w : ℕ) → badEvent BANKED-WRITE a w ≡ false → a < 64
+pub write-a : (a w : ℕ) → badEvent BANKED-WRITE a w ≡ false → a < CELL-VALUES
 unfolding badEvent
-write-a a w h = a-below 64 a false h
+write-a a w h = a-below CELL-VALUES a false h
 
 pub note-a : (a w : ℕ) → badEvent NOTE a w ≡ false → a < PLACES
 unfolding badEvent
 note-a a w h = a-below PLACES a false h
 
 -- a register that a cell names lies in the block, below CPSR
-pub inside-registers : (a : ℕ) → a < 64 → (cell a is NO-PLACE) ≡ false → cell a < CPSR
+pub inside-registers : (a : ℕ) → a < CELL-VALUES → (cell a is NO-PLACE) ≡ false → cell a < CPSR
 inside-registers a l h = cell-inside a l (eqb-false (cell a) NO-PLACE h)
 
-inside : (a : ℕ) → a < 64 → (cell a is NO-PLACE) ≡ false → cell a < PLACES
+inside : (a : ℕ) → a < CELL-VALUES → (cell a is NO-PLACE) ≡ false → cell a < PLACES
 inside a l h = let p = cell-inside a l (eqb-false (cell a) NO-PLACE h) in omega arith
 
 done-sound : (b : List ℕ) (code a w : ℕ) → Passed b (record { code = code; a = a; b = w })
     → Sound (doneAction b (record { code = code; a = a; b = w }))
-unfolding doneAction
 done-sound b code a w p =
-    by (code is INTERRUPT-CHECK) (code is BANKED-READ) (code is BANKED-WRITE) (code is NOTE) refl refl refl refl
-  where
-    by : (t9 t10 t11 t12 : Bool) → (code is INTERRUPT-CHECK) ≡ t9 → (code is BANKED-READ) ≡ t10
-        → (code is BANKED-WRITE) ≡ t11 → (code is NOTE) ≡ t12
-        → Sound
-        (if t9 then
-        checked a (word b CPSR) (word b SCR) (word b HCR) (word b PC)
-        (interrupt.found a (word b CPSR) (word b SCR) (word b HCR))
-        else
-        if t10 then Read (cell a) else
-        if t11 then Put (cell a) w else
-        if t12 then Put a w else
-        takenBy Synchronous (synchronous.way code a (word b CPSR) (word b SCR) (word b HCR) (word b PC)))
-    by true t10 t11 t12 e9 e10 e11 e12 = checked-sound a (word b CPSR) (word b SCR) (word b HCR) (word b PC) (interrupt.found a (word b CPSR) (word b SCR) (word b HCR))
-    by false true t11 t12 e9 e10 e11 e12 =
-        let e = eqb-true code BANKED-READ e10 in
-        inside a (read-a a w (rw e at (p .event))) (rw e at (p .register))
-    by false false true t12 e9 e10 e11 e12 =
-        let e = eqb-true code BANKED-WRITE e11 in
-        inside a (write-a a w (rw e at (p .event))) (rw e at (p .register))
-    by false false false true e9 e10 e11 e12 =
-        let e = eqb-true code NOTE e12 in note-a a w (rw e at (p .event))
-    by false false false false e9 e10 e11 e12 =
-        taken-sound Synchronous (synchronous.way code a (word b CPSR) (word b SCR) (word b HCR) (word b PC))
-        (synchronous-sound code a (word b CPSR) (word b SCR) (word b HCR) (word b PC))
+    by-code Sound b code a w
+    (λ e. checked-sound a (word b CPSR) (word b SCR) (word b HCR) (word b PC) (foundIn b a))
+    (λ e. inside a (read-a a w (rw e at (p .event))) (rw e at (p .register)))
+    (λ e. inside a (write-a a w (rw e at (p .event))) (rw e at (p .register)))
+    (λ e. note-a a w (rw e at (p .event)))
+    (λ o.
+    taken-sound Synchronous (eventWay b code a)
+    (synchronous-sound code a (word b CPSR) (word b SCR) (word b HCR) (word b PC)))
 
 pub action-sound : (b : List ℕ) (e : Event) → Sound (action b e)
 unfolding action

@@ -5,38 +5,34 @@ use Prim.Native.Nat.{ℕ}
 use lib.Dec.{leb}
 use Rattle.state.specs.Choice.{if_then_else_, _is_, _among_}
 use Rattle.state.specs.Place.{PLACES}
-use Rattle.entry.specs.Code.{isSynchronous, isAbort}
+use Rattle.entry.specs.Code.{isAbort}
+pub use Rattle.entry.specs.Code.{INTERRUPT-CHECK, BANKED-READ, BANKED-WRITE, NOTE, isKnown}
+pub use Rattle.banked.specs.Cell.{CELL-VALUES}
 pub use Rattle.rules.specs.declared.event.Event.{Event}
-
--- the codes beside the synchronous ones
-abbrev pub INTERRUPT-CHECK : ℕ
-INTERRUPT-CHECK = 9
-
-abbrev pub BANKED-READ : ℕ
-BANKED-READ = 10
-
-abbrev pub BANKED-WRITE : ℕ
-BANKED-WRITE = 11
-
-abbrev pub NOTE : ℕ
-NOTE = 12
 
 -- a banked read or write
 abbrev pub isBanked : ℕ → Bool
 isBanked code = code among (BANKED-READ ∷ BANKED-WRITE ∷ [])
 
--- the codes of the table
-abbrev pub isKnown : ℕ → Bool
-isKnown code = isSynchronous code || code among (INTERRUPT-CHECK ∷ BANKED-READ ∷ BANKED-WRITE ∷ NOTE ∷ [])
+-- how many values A may have, counted from 0: one where it must be 0, the two bits of an abort, the five lines of a check, the
+-- cells of a banked access, the places of a note
+abbrev pub ZERO-ONLY : ℕ
+ZERO-ONLY = 1
 
--- how many values A may have, counted from 0; "A and B must be 0 where not named"
+abbrev pub ABORT-VALUES : ℕ
+ABORT-VALUES = 4
+
+abbrev pub LINE-VALUES : ℕ
+LINE-VALUES = 32
+
+-- "A and B must be 0 where not named"
 abbrev pub valuesOfA : ℕ → ℕ
 valuesOfA code =
-    if isAbort code then 4 else
-    if code is INTERRUPT-CHECK then 32 else
-    if isBanked code then 64 else
+    if isAbort code then ABORT-VALUES else
+    if code is INTERRUPT-CHECK then LINE-VALUES else
+    if isBanked code then CELL-VALUES else
     if code is NOTE then PLACES else
-    1
+    ZERO-ONLY
 
 -- "B the new word"
 abbrev pub takesB : ℕ → Bool

@@ -3,4 +3,5 @@ pub mod Verdict
 pub mod Action
 pub mod Refusal
 pub mod Step
+pub mod Run
 pub mod Parts

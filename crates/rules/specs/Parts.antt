@@ -11,6 +11,7 @@ use Rattle.state.specs.Mode.{isTarget}
 use Rattle.state.specs.Number.{DONE}
 use Rattle.state.specs.Place.{PLACES, BLOCK-SIZE, CPSR, SCR}
 use Rattle.state.specs.State.{fault}
+use Rattle.entry.specs.Offset.{PREFETCH-ABORT}
 use Rattle.rules.specs.Step.{ANSWER-SIZE, Action, Refuse, Take, Quiet, Read, Put, answerTo, blockAfter, answerBytes}
 use Rattle.rules.specs.Verdict.{Answer, Verdict, Entry, NothingTaken, Register, Written}
 
@@ -32,7 +33,7 @@ Carried b x n l m = (l ≡ blockAfter b x) × Told (answerTo b x) n m
 
 -- what the link of an abort has added, by the offset of the abort
 abbrev pub abortMore : ℕ → ℕ
-abortMore own = if own is 0x0C then 4 else 8
+abortMore own = if own is PREFETCH-ABORT then 4 else 8
 
 -- the word v put at the place p, unless n refuses it
 unfoldable pub judgedPut : ℕ → ℕ → ℕ → Action

@@ -1,4 +1,5 @@
--- The refusals, in the order of their numbers: the first row that applies wins (document 01, "Answer numbers").
+-- The refusals, in the order of their numbers, and for a note again the second and the third: the first row that applies wins
+-- (document 01, "Answer numbers").
 use mathlib.Core.Bool.{Bool, true, false, not, _&&_, _||_}
 use mathlib.Core.List.{List, [], _∷_}
 use Prim.Native.Nat.{ℕ}

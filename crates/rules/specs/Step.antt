@@ -6,14 +6,15 @@ use lib.ListN.{length}
 use Rattle.words.specs.Word.{le32, word, put}
 use Rattle.state.specs.Choice.{if_then_else_, _is_}
 use Rattle.state.specs.Field.{without}
-use Rattle.state.specs.Number.{DONE, BAD-SIZE, NOT-HERE}
+use Rattle.state.specs.Number.{DONE, BAD-SIZE}
 use Rattle.state.specs.Place.{BLOCK-SIZE, CPSR, PC, SCR, HCR}
 use Rattle.entry.specs.Enter.{entered}
 use Rattle.entry.specs.Route as synchronous
-use Rattle.entry.specs.Way.{Way, NotHere, Enter}
+use Rattle.entry.specs.Way.{Way, Barred, Enter}
 use Rattle.interrupts.specs.Check as interrupt
 use Rattle.interrupts.specs.declared.exception.Exception.{Exception}
-use Rattle.interrupts.specs.declared.exception.Exception.the-variants.{Synchronous, SError, Fiq, Irq, VirtualSError, VirtualFiq, VirtualIrq}
+use Rattle.interrupts.specs.declared.exception.Exception.the-variants.{Synchronous, SError, Fiq, Irq}
+use Rattle.interrupts.specs.declared.exception.Exception.the-variants.{VirtualSError, VirtualFiq, VirtualIrq}
 use Rattle.interrupts.specs.declared.check.Found.{Found}
 use Rattle.interrupts.specs.declared.check.Found.the-variants.{Nothing, First}
 use Rattle.banked.specs.Cell.{cell}
@@ -26,9 +27,9 @@ pub use Rattle.rules.specs.Action.{Action, Refuse, Take, Quiet, Read, Pu
 abbrev pub ANSWER-SIZE : ℕ
 ANSWER-SIZE = 8
 
--- an exception that goes its way; without one it is NOT_HERE
+-- an exception that goes its way, or is refused by what bars it
 abbrev pub takenBy : Exception → Way → Action
-takenBy x NotHere = Refuse NOT-HERE
+takenBy x (Barred n) = Refuse n
 takenBy x (Enter to offset link) = Take x to offset link
 
 -- an interrupt check of these lines, by what it finds
@@ -36,17 +37,27 @@ abbrev pub checked : ℕ → ℕ → ℕ → ℕ → ℕ → Found → Action
 checked lines cpsr scr hcr pc Nothing = Quiet lines
 checked lines cpsr scr hcr pc (First x) = takenBy x (interrupt.way x cpsr scr hcr pc)
 
+-- by the words of a block: where an event or an interrupt goes, what a check of these lines finds, and what it comes to
+abbrev pub eventWay : List ℕ → ℕ → ℕ → Way
+eventWay b code a = synchronous.way code a (word b CPSR) (word b SCR) (word b HCR) (word b PC)
+
+abbrev pub interruptWay : List ℕ → Exception → Way
+interruptWay b x = interrupt.way x (word b CPSR) (word b SCR) (word b HCR) (word b PC)
+
+abbrev pub foundIn : List ℕ → ℕ → Found
+foundIn b lines = interrupt.found lines (word b CPSR) (word b SCR) (word b HCR)
+
+abbrev pub checkedIn : List ℕ → ℕ → Found → Action
+checkedIn b lines = checked lines (word b CPSR) (word b SCR) (word b HCR) (word b PC)
+
 -- the rules of a done step, by its code
 unfoldable pub doneAction : List ℕ → Event → Action
 doneAction b e =
-    if e .code is INTERRUPT-CHECK then
-    checked (e .a) (word b CPSR) (word b SCR) (word b HCR) (word b PC)
-    (interrupt.found (e .a) (word b CPSR) (word b SCR) (word b HCR))
-    else
+    if e .code is INTERRUPT-CHECK then checkedIn b (e .a) (foundIn b (e .a)) else
     if e .code is BANKED-READ then Read (cell (e .a)) else
     if e .code is BANKED-WRITE then Put (cell (e .a)) (e .b) else
     if e .code is NOTE then Put (e .a) (e .b) else
-    takenBy Synchronous (synchronous.way (e .code) (e .a) (word b CPSR) (word b SCR) (word b HCR) (word b PC))
+    takenBy Synchronous (eventWay b (e .code) (e .a))
 
 -- what an event comes to: the refusals first
 unfoldable pub action : List ℕ → Event → Action

@@ -12,7 +12,7 @@ use state::number;
 use words::put_word;
 
 // The places of the two words of an answer.
-const NUMBER: usize = 0;
+pub const NUMBER: usize = 0;
 
 pub const VALUE: usize = 1;
 

@@ -3,15 +3,7 @@ ghost use mathlib.Core.Path.{_≡_};
 ghost use mathlib.Core.Bool.{not, _||_};
 ghost use lib.Dec.{leb};
 ghost use Rattle.state.specs.Choice.{_is_};
-
-// The codes beside the synchronous ones.
-pub const INTERRUPT_CHECK: u32 = 9;
-
-pub const BANKED_READ: u32 = 10;
-
-pub const BANKED_WRITE: u32 = 11;
-
-pub const NOTE: u32 = 12;
+use state::place;
 
 #[repr(C)]
 pub struct Event {
@@ -30,7 +22,7 @@ pub const LINE_VALUES: u32 = 32;
 
 pub const CELL_VALUES: u32 = 64;
 
-pub const PLACE_VALUES: u32 = 44;
+pub const PLACE_VALUES: u32 = place::PLACES as u32;
 
 // BAD_EVENT by the operands: A is not below its bound, or B, where it must be, is not 0.
 pub fn beyond(a: u32, bound: u32, b: u32) -> bool

@@ -1,8 +1,8 @@
 -- A block is good by its parts: a known mode, bits 24 to 21 clear, and a mode that stands where NS and TGE let it.
 use mathlib.Core.Path.{_≡_, refl, sym, _∙_}
 use mathlib.Core.Bool.{Bool, true, false, not, _&&_}
-use mathlib.Core.List.{List, [], _∷_}
-use Prim.Native.Nat.{ℕ, _<_}
+use mathlib.Core.List.{[], _∷_}
+use Prim.Native.Nat.{ℕ}
 use native.Mathlib.Omega.{arith}
 use borrow.Author.Tests.{eqb-false, not-false}
 use Rattle.state.specs.Choice.{if_then_else_, _is_, firstOf}
@@ -24,21 +24,21 @@ pub record Good (cpsr scr hcr : ℕ) : Type 0 where
   pub clear : (bits 24 21 cpsr is 0) ≡ true
   pub standing : stands (mode-field cpsr) (SCR-NS scr) (HCR-TGE hcr) ≡ true
 
--- the rows of a fault, by the tests alone
-abbrev rows : Bool → Bool → ℕ
-rows k g =
-    firstOf (record { applies = not k; number = BAD-MODE } ∷ record { applies = not g; number = BAD-STATE } ∷ []) DONE
+-- the rows of a fault: the mode is unknown, the block is not good
+abbrev pub faultRows : Bool → Bool → ℕ
+faultRows unknown bad =
+    firstOf (record { applies = unknown; number = BAD-MODE } ∷ record { applies = bad; number = BAD-STATE } ∷ []) DONE
 
--- the converse
-by-tests : (k g : Bool) → rows k g ≡ DONE → (k ≡ true) × (g ≡ true)
-by-tests false g h = let z : _≡_ {A = ℕ} 2 0 = h in absurd (eqb-false 2 0 refl z)
-by-tests true false h = let z : _≡_ {A = ℕ} 3 0 = h in absurd (eqb-false 3 0 refl z)
-by-tests true true h = (refl, refl)
+-- without a fault neither applies
+pub no-row : (unknown bad : Bool) → faultRows unknown bad ≡ DONE → (unknown ≡ false) × (bad ≡ false)
+no-row true bad h = absurd (eqb-false BAD-MODE DONE refl h)
+no-row false true h = absurd (eqb-false BAD-STATE DONE refl h)
+no-row false false h = (refl, refl)
 
 pub parts-of-good : (cpsr scr hcr : ℕ) → faultOf cpsr scr hcr ≡ DONE → Good cpsr scr hcr
 unfolding faultOf good
 parts-of-good cpsr scr hcr h =
-    let g = by-tests (known (mode-field cpsr)) (good cpsr scr hcr) h .1 in
+    let g = not-false (good cpsr scr hcr) (no-row (not (known (mode-field cpsr))) (not (good cpsr scr hcr)) h .1) in
     let a = and-right (known (mode-field cpsr)) _ g in
     record {
       known-mode = and-left (known (mode-field cpsr)) _ g;
@@ -57,13 +57,13 @@ bad-modes set {ns} {tge} p q h m l =
     (at-below 32 (λ m. same (inSet set m) (not (known m && stands m ns tge))) h m l))
 
 -- in a bad mode, and in another with one of bits 24 to 21 set
-rows-bad : (k c s : Bool) → not (k && s) ≡ true → (if k then BAD-STATE else BAD-MODE) ≡ rows k (k && (c && s))
+rows-bad : (k c s : Bool) → not (k && s) ≡ true → (if k then BAD-STATE else BAD-MODE) ≡ faultRows (not k) (not (k && (c && s)))
 rows-bad false c s h = refl
 rows-bad true false s h = refl
 rows-bad true true false h = refl
 rows-bad true true true h = let z : _≡_ {A = Bool} false true = h in cc
 
-rows-unclear : (k c s : Bool) → not (k && s) ≡ false → c ≡ false → BAD-STATE ≡ rows k (k && (c && s))
+rows-unclear : (k c s : Bool) → not (k && s) ≡ false → c ≡ false → BAD-STATE ≡ faultRows (not k) (not (k && (c && s)))
 rows-unclear true false s h e = refl
 rows-unclear false c s h e = let z : _≡_ {A = Bool} true false = h in cc
 rows-unclear true true s h e = let z : _≡_ {A = Bool} true false = e in cc

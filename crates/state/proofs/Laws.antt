@@ -1,16 +1,15 @@
 -- Monitor stands apart: it is neither User nor an EL1 mode, so with NS 1 the mode alone tells who is Non-secure.
 use mathlib.Core.Path.{_≡_, refl, sym}
 use mathlib.Core.Bool.{Bool, true, false, not, _&&_, _||_}
-use mathlib.Core.List.{List, [], _∷_}
 use Prim.Native.Nat.{ℕ, _*_, _^_, _<_}
 use native.Mathlib.Nat.{one-mul, zero-mul}
-use lib.Dec.{eqb, ltb}
+use lib.Dec.{ltb}
 use borrow.Author.Tests.{eqb-true, ltb-true}
-use Rattle.state.specs.Choice.{if_then_else_, _is_, _among_}
+use Rattle.state.specs.Choice.{_is_}
 use Rattle.state.specs.Field.{flag, mode-field, SCR-NS}
 use Rattle.state.specs.Mode.{MONITOR, USER, el1, targets, isTarget, spsrPlace, lrPlace}
 use Rattle.state.specs.Place.{PLACES}
-use Rattle.state.specs.State.{secure, nsEl1, nsUser}
+use Rattle.state.specs.State.{nsEl1, nsUser}
 use Rattle.state.proofs.Test.{at-one}
 
 -- what holds of no Monitor: with NS set, not Secure is nothing more to ask

@@ -1,12 +1,11 @@
 -- A set of modes as a word, bit n for the mode of number n, says what the list of those modes says.
 use mathlib.Core.Path.{_≡_, refl}
-use mathlib.Core.Bool.{Bool, true, false}
-use mathlib.Core.List.{List, [], _∷_}
-use mathlib.Core.Logic.{_⊎_, inl, inr}
+use mathlib.Core.Bool.{Bool, true, false, _||_}
+use mathlib.Core.List.{List, [], _∷_, _++_}
 use Prim.Native.Nat.{ℕ, _<_, _≤_}
 use native.Mathlib.Omega.{arith}
 use lib.Dec.{eqb, ltb}
-use borrow.Author.Tests.{eq-eqb, ne-eqb, ltb-true}
+use borrow.Author.Tests.{ne-eqb, ltb-true}
 use Rattle.state.specs.Choice.{if_then_else_, _is_, _among_}
 pub use Rattle.state.specs.Parts.{inSet}
 use Rattle.state.proofs.Test.{same, same-eq, everyBelow, at-below, everyOf, and-left, and-right}
@@ -23,23 +22,21 @@ among-out k (x ∷ xs) h n l =
     let b = ltb-true x k (and-left (ltb x k) (everyOf xs (λ x. ltb x k)) h) in
     rw (ne-eqb n x (λ e. omega arith)) (among-out k xs (and-right (ltb x k) (everyOf xs (λ x. ltb x k)) h) n l)
 
--- the number is one of those of the list, as the arms of a `match` say it
-abbrev pub OneOf : ℕ → List ℕ → Type 0
-OneOf n [] = ⊥
-OneOf n (x ∷ []) = n ≡ x
-OneOf n (x ∷ y ∷ ys) = (n ≡ x) ⊎ OneOf n (y ∷ ys)
-
-pub one-of-among : (n : ℕ) (xs : List ℕ) → OneOf n xs → (n among xs) ≡ true
-one-of-among n [] h = absurd h
-one-of-among n (x ∷ []) h = rw (eq-eqb n x h)
-one-of-among n (x ∷ y ∷ ys) (inl e) = rw (eq-eqb n x e)
-one-of-among n (x ∷ y ∷ ys) (inr h) = or-true (eqb n x) (one-of-among n (y ∷ ys) h)
+-- in two lists, one after the other
+pub among-append : (n : ℕ) (xs ys : List ℕ) → (n among (xs ++ ys)) ≡ (n among xs || n among ys)
+among-append n [] ys = refl
+among-append n (x ∷ xs) ys = by (eqb n x) (among-append n xs ys)
   where
-    or-true : (t : Bool) {u : Bool} → u ≡ true → (if t then true else u) ≡ true
-    or-true true g = refl
-    or-true false g = g
+    by : (t : Bool) → (n among (xs ++ ys)) ≡ (n among xs || n among ys)
+        → (if t then true else n among (xs ++ ys)) ≡ ((if t then true else n among xs) || n among ys)
+    by true h = refl
+    by false h = h
 
-pub none-of-among : (n : ℕ) (xs : List ℕ) → (OneOf n xs → ⊥) → (n among xs) ≡ false
-none-of-among n [] h = refl
-none-of-among n (x ∷ []) h = rw (ne-eqb n x h)
-none-of-among n (x ∷ y ∷ ys) h = rw (ne-eqb n x (λ e. h (inl e))) (none-of-among n (y ∷ ys) (λ k. h (inr k)))
+-- the number is none of them, as the last arm of a `match` says it, which knows P besides
+abbrev pub Unlike : Type 0 → ℕ → List ℕ → Type 0
+Unlike P n [] = P
+Unlike P n (x ∷ xs) = Unlike (P × (n ≡ x → ⊥)) n xs
+
+pub unlike-among : (P : Type 0) (n : ℕ) (xs : List ℕ) → Unlike P n xs → P × ((n among xs) ≡ false)
+unlike-among P n [] h = (h, refl)
+unlike-among P n (x ∷ xs) h = let r = unlike-among (P × (n ≡ x → ⊥)) n xs h in (r .0 .0, rw (ne-eqb n x (r .0 .1)) (r .1))

@@ -2,7 +2,7 @@
 use mathlib.Core.Path.{_≡_, refl, sym, _∙_}
 use mathlib.Core.Bool.{Bool, true, false, not, _&&_, _||_}
 use mathlib.Core.List.{List, [], _∷_}
-use Prim.Native.Nat.{ℕ, zero, suc, _+_, _<_, _≤_}
+use Prim.Native.Nat.{ℕ, zero, suc, _+_, _<_}
 use native.Mathlib.Nat.{add-zero, add-suc, suc-add, zero-add, le-of-suc-le-suc, not-suc-le-zero}
 use native.Mathlib.Omega.{arith}
 use lib.Dec.{eqb}
@@ -48,10 +48,6 @@ told-both d e f h = cc
 -- of two tests, one or neither
 pub first-of-two : (x y : Bool) → x ≡ true → (x || y) ≡ true
 first-of-two x y h = rw h
-
-pub second-of-two : (x y : Bool) → y ≡ true → (x || y) ≡ true
-second-of-two true y h = refl
-second-of-two false y h = h
 
 pub neither : (x y : Bool) → x ≡ false → y ≡ false → (x || y) ≡ false
 neither x y h k = rw (h, k)

@@ -3,7 +3,8 @@ use mathlib.Core.Bool.{Bool}
 use mathlib.Core.List.{List, [], _∷_}
 use Prim.Native.Nat.{ℕ}
 use Rattle.state.specs.Choice.{if_then_else_, _is_, _among_}
-use Rattle.state.specs.Place.{NO-PLACE, LR-usr, LR-fiq, LR-irq, LR-svc, LR-abt, LR-und, LR-mon, ELR-hyp, SPSR-fiq, SPSR-irq, SPSR-svc, SPSR-abt, SPSR-und, SPSR-mon, SPSR-hyp}
+use Rattle.state.specs.Place.{NO-PLACE, LR-usr, LR-fiq, LR-irq, LR-svc, LR-abt, LR-und, LR-mon, ELR-hyp, SPSR-fiq}
+use Rattle.state.specs.Place.{SPSR-irq, SPSR-svc, SPSR-abt, SPSR-und, SPSR-mon, SPSR-hyp}
 
 abbrev pub USER : ℕ
 USER = 0x10

@@ -1,6 +1,7 @@
--- The answer numbers of a step (document 01, "Answer numbers").
+-- The answer numbers (document 01, "Answer numbers", and "The trace" for the checker's).
 use Prim.Native.Nat.{ℕ}
 
+-- a step's
 abbrev pub DONE : ℕ
 DONE = 0
 
@@ -24,3 +25,19 @@ NO-REGISTER = 6
 
 abbrev pub NO-RIGHT : ℕ
 NO-RIGHT = 7
+
+-- the checker's, which answers DONE of a trace that it accepts
+abbrev pub SHORT : ℕ
+SHORT = 8
+
+abbrev pub BAD-RECORD : ℕ
+BAD-RECORD = 9
+
+abbrev pub BAD-COUNT : ℕ
+BAD-COUNT = 10
+
+abbrev pub WRONG-STEP : ℕ
+WRONG-STEP = 11
+
+abbrev pub TRAILING : ℕ
+TRAILING = 12

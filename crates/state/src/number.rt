@@ -1,4 +1,4 @@
-// The answer numbers of a step (document 01, "Answer numbers").
+// The answer numbers (document 01, "Answer numbers"). A step's:
 pub const DONE: u32 = 0;
 
 pub const BAD_SIZE: u32 = 1;
@@ -14,3 +14,14 @@ pub const NOT_HERE: u32 = 5;
 pub const NO_REGISTER: u32 = 6;
 
 pub const NO_RIGHT: u32 = 7;
+
+// The checker's (document 01, "The trace"), which answers DONE of a trace that it accepts:
+pub const SHORT: u32 = 8;
+
+pub const BAD_RECORD: u32 = 9;
+
+pub const BAD_COUNT: u32 = 10;
+
+pub const WRONG_STEP: u32 = 11;
+
+pub const TRAILING: u32 = 12;

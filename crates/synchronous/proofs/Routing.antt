@@ -2,31 +2,30 @@
 -- over the code of the event.
 use mathlib.Core.Path.{_≡_, refl, sym, ap, _∙_}
 use mathlib.Core.Bool.{Bool, true, false, not, _&&_, _||_}
-use mathlib.Core.List.{List, [], _∷_}
-use Prim.Native.Nat.{ℕ, _<_, _≤_, _^_}
+use mathlib.Core.List.{List}
+use Prim.Native.Nat.{ℕ, _<_, _^_}
 use lib.Dec.{leb}
 use lib.ListN.{length}
-use borrow.Author.Tests.{eqb-true}
 use Rattle.words.specs.Word.{word, Bytes}
 use Rattle.words.proofs.Laws.{spelt-fits}
-use Rattle.state.specs.Choice.{if_then_else_, _is_, _among_}
+use Rattle.state.specs.Choice.{_is_}
 use Rattle.state.specs.Field.{mode-field, SCR-EA}
 use Rattle.state.specs.Mode.{HYP, MONITOR, ABORT}
 use Rattle.state.specs.Number.{DONE, BAD-EVENT, NOT-HERE}
 use Rattle.state.specs.Place.{BLOCK-SIZE, CPSR, PC, SCR, HCR}
 use Rattle.state.specs.State.{fault, secure}
-use Rattle.state.proofs.Test.{refuted, true-is-not-false}
-use Rattle.entry.specs.Code.{isSynchronous, external, stage2}
+use Rattle.state.proofs.Sets.{among-append}
+use Rattle.entry.specs.Code.{synchronous-codes, other-codes, isSynchronous, external, stage2}
 use Rattle.entry.specs.Parts.{generalToHyp, abortWay}
 use Rattle.entry.specs.Route.{wrap, offsetTo, way}
-use Rattle.entry.specs.Way.{Way, NotHere, Enter}
+use Rattle.entry.specs.Way.{Way, Barred, Enter}
 use Rattle.interrupts.specs.declared.exception.Exception.the-variants.{Synchronous}
-use Rattle.rules.specs.Event.{INTERRUPT-CHECK, BANKED-READ, BANKED-WRITE, NOTE, valuesOfA, badEvent}
+use Rattle.rules.specs.Event.{BANKED-WRITE, NOTE, valuesOfA, badEvent}
 use Rattle.rules.specs.Parts.{Lent, Ready, Told, Carried, abortMore}
-use Rattle.rules.specs.Step.{Action, Refuse, Take, takenBy, action}
+use Rattle.rules.specs.Step.{Action, Take, takenBy, action}
 use Rattle.rules.specs.Verdict.{refusedWith}
 use Rattle.rules.proofs.Carrying.{same-action, refused}
-use Rattle.rules.proofs.Deciding.{event, bad-event, at-synchronous}
+use Rattle.rules.proofs.Deciding.{event, other, bad-event, at-synchronous}
 
 -- what a function without a `requires` asks, wherever it is called
 pub nothing : {C L : Type 0} → C → L → Unit {0}
@@ -40,13 +39,10 @@ second-tells p q = rw (p, q)
 pub added : (pc : ℕ) {n k l : ℕ} → n ≡ k → l ≡ wrap pc n → l ≡ wrap pc k
 added pc e h = h ∙ ap (wrap pc) e
 
--- the code of a synchronous event is none of the others, as antt computes of each
-other : (code : ℕ) → isSynchronous code ≡ true → (n : ℕ) → isSynchronous n ≡ false → (code is n) ≡ false
-other code k n h = refuted (code is n) (λ e. true-is-not-false k (ap isSynchronous (eqb-true code n e) ∙ h))
-
 operands : (code a w : ℕ) → isSynchronous code ≡ true → badEvent code a w ≡ (leb (valuesOfA code) a || not (w is 0))
 unfolding badEvent
-operands code a w k = rw (k, other code k BANKED-WRITE refl, other code k NOTE refl)
+operands code a w k =
+    rw (among-append code synchronous-codes other-codes, k, other code k BANKED-WRITE refl, other code k NOTE refl)
 
 -- the operands of an event of this code are out of their range, by what `beyond` answered
 pub beyond-range : (code : ℕ) → isSynchronous code ≡ true → (b : List ℕ) (a w : ℕ) {r : Bool} {n : ℕ} {m : List ℕ}
@@ -83,16 +79,14 @@ module _ {code : ℕ} {b m : List ℕ} {cpsr scr a w : ℕ} (e : Asked code b m 
   routed : {x : Way} {hcr pc : ℕ} → hcr ≡ word b HCR → pc ≡ word b PC → x ≡ way code a cpsr scr hcr pc
       → takenBy Synchronous x ≡ action b (event code a w)
   routed {x} eh ep h =
-      let k = e .kind in
       let words : x ≡ way code a (word b CPSR) (word b SCR) (word b HCR) (word b PC) =
       rw (← e .lent .2, ← e .lent .3, ← eh, ← ep) h in
       ap (takenBy Synchronous) words
-      ∙ at-synchronous b a w (e .lent .0) (e .good) code (e .well-formed) k (other code k INTERRUPT-CHECK refl)
-      (other code k BANKED-READ refl) (other code k BANKED-WRITE refl) (other code k NOTE refl)
+      ∙ at-synchronous b a w (e .lent .0) (e .good) code (e .well-formed) (e .kind)
 
-  pub not-here : {n : ℕ} {q : List ℕ} → NotHere ≡ way code a cpsr scr (word b HCR) (word b PC)
-      → Told (refusedWith NOT-HERE) n q → Carried b (action b (event code a w)) n b q
-  not-here h t = refused b NOT-HERE (routed refl refl h) t
+  pub barred : {k n : ℕ} {q : List ℕ} → Barred k ≡ way code a cpsr scr (word b HCR) (word b PC)
+      → Told (refusedWith k) n q → Carried b (action b (event code a w)) n b q
+  barred {k} h t = refused b k (routed refl refl h) t
 
   -- on what the rules call its way
   pub on-its-way : {x : Way} {hcr pc n : ℕ} {l q : List ℕ} → Read b hcr pc → x ≡ way code a cpsr scr hcr pc
@@ -122,7 +116,8 @@ pub record Aborting (own : ℕ) (b m : List ℕ) (cpsr scr a : ℕ) : Type 0 whe
   pub lent : Lent b m cpsr scr × (own < 32)
   pub here : lacking a cpsr scr ≡ false
 
-module _ {own cpsr scr a hcr pc : ℕ} {b m : List ℕ} (e : Aborting own b m cpsr scr a) (d : Read b hcr pc) {n : ℕ} {l q : List ℕ} where
+module _ {own cpsr scr a hcr pc : ℕ} {b m : List ℕ} (e : Aborting own b m cpsr scr a) (d : Read b hcr pc)
+    {n : ℕ} {l q : List ℕ} where
   aborted : {x : Way} → x ≡ abortWay own (abortMore own) a cpsr scr hcr pc → Carried b (takenBy Synchronous x) n l q
       → Carried b (Abort own b a cpsr scr) n l q
   aborted {x} h t =

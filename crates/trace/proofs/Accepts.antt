@@ -6,16 +6,21 @@ use Prim.Native.Nat.{ℕ, suc, _+_, _-_, _<_, _≤_, _^_}
 use native.Mathlib.Omega.{arith}
 use lib.ListN.{length, take, drop, length-take, length-drop, take-append-drop}
 use lib.Seq.{drop-drop}
+use lib.Dec.{lit<}
 use borrow.Author.Tests.{le-leb, eq-eqb, leb-true, eqb-true}
 use Rattle.words.specs.Word.{le32, spelt, Bytes}
 use Rattle.words.proofs.Spell.{spelt-split, bytes-drop, bytes-take}
 use Rattle.rules.specs.declared.event.Event.{Event}
 use Rattle.rules.specs.declared.verdict.Answer.{Answer}
-use Rattle.trace.specs.Layout.{Layout, Lawful, startSize, stepSize, endSize, endKind, mostSteps, placeOf}
-use Rattle.trace.specs.Published.{IsEvent, AreEvents, head, startRecord, endRecord, stepShowing, stepRecord, stepRecords, run, published}
-use Rattle.trace.specs.Report.{headNumber, startNumber, stepNumber, endNumber, endReport, reportFrom, report, eventOf, WRONG-STEP}
+use Rattle.rules.specs.Run.{runBy}
+use Rattle.trace.specs.Layout.{Layout, Lawful, startSize, stepSize, endSize, endKind, mostSteps, placeOf, countAt, startBlockAt}
+use Rattle.trace.specs.Published.{IsEvent, AreEvents, head, startRecord, endRecord, stepShowing, stepRecord, stepRecords}
+use Rattle.trace.specs.Published.{run, published}
+use Rattle.trace.specs.Report.{headNumber, startNumber, stepNumber, endNumber, endReport, reportFrom, report, eventOf}
+use Rattle.trace.specs.Report.{BAD-COUNT, WRONG-STEP}
 use Rattle.trace.proofs.Faults.{else-zero, unless-zero, same-yes, same-no, same-true, head-whole}
-use Rattle.trace.proofs.Records.{head-is, end-head, end-count, length-end, start-head, start-count, start-block, start-rest, step-head, step-event, step-whole, step-rest, length-published}
+use Rattle.trace.proofs.Records.{head-is, end-head, end-count, length-end, start-head, start-count, start-block}
+use Rattle.trace.proofs.Records.{start-rest, step-head, step-event, step-whole, step-rest, length-published}
 use Rattle.trace.proofs.Judging.{from-right, from-end, end-right, start-right}
 
 module _ (L : Layout) (LL : Lawful L) where
@@ -41,14 +46,14 @@ module _ (L : Layout) (LL : Lawful L) where
   -- the checker comes through the Steps of es, to whatever stands behind them
   pub from-run : (es : List Event) (n m k : ℕ) (b t : List ℕ) → n ≡ length es + m → length b ≡ L .size → AreEvents es
       → reportFrom L n k b (stepRecords L b es ++ t) ≡ reportFrom L m (k + length es) (run L b es) t
-  unfolding run stepRecords
+  unfolding runBy stepRecords
   from-run [] n m k b t q h ok =
       let e : n ≡ m = omega arith in
       let f : k ≡ k + 0 = omega arith in
       λ i. reportFrom L (e i) (f i) b t
   from-run (e ∷ es) n m k b t q h ok =
       let u : List ℕ = stepRecords L (L .after b e) es ++ t in
-      let l = LL .length-after b e ∙ h in
+      let l = LL .length-after b e h in
       let pos : 0 < n = omega arith in
       let less : n - 1 ≡ length es + m = omega arith in
       let up : k + 1 + length es ≡ k + suc (length es) = omega arith in
@@ -68,7 +73,7 @@ module _ (L : Layout) (LL : Lawful L) where
   from-start n b t few h =
       let s : List ℕ = startRecord L n b ++ t in
       let count = start-count L LL n b t h (omega arith) in
-      let z : startNumber L s ≡ 0 = simp (start-head L LL n b t h, le-leb (spelt s 4) mostSteps (omega arith)) in
+      let z : startNumber L s ≡ 0 = simp (start-head L LL n b t h, le-leb (spelt s countAt) mostSteps (omega arith)) in
       start-right L s z ∙ (λ i. reportFrom L (count i) 0 (start-block L LL n b t h i) (start-rest L LL n b t h i))
 
   -- both at once: after a Start and these Steps the judgement goes on with what stands behind them
@@ -118,7 +123,7 @@ module _ (L : Layout) (LL : Lawful L) where
   unfolding stepNumber
   step-is b r z =
       let q = else-zero (headNumber (stepSize L) (L .stepKind) r) _ z in
-      let same = same-true (take (stepSize L) r) (stepRecord L b (eventOf r)) (unless-zero _ 10 (q .1)) in
+      let same = same-true (take (stepSize L) r) (stepRecord L b (eventOf r)) (unless-zero _ WRONG-STEP (lit< tt) (q .1)) in
       sym (take-append-drop (stepSize L) r) ∙ ap (λ (l : List ℕ). l ++ drop (stepSize L) r) same
 
   -- a right End is the End of these Steps, and the rest
@@ -127,10 +132,10 @@ module _ (L : Layout) (LL : Lawful L) where
   end-is k r by z =
       let q = else-zero (headNumber endSize endKind r) _ z in
       let h = head-whole endSize endKind r (q .0) in
-      let count : spelt r 4 ≡ k = eqb-true _ _ (unless-zero _ 9 (q .1)) in
+      let count : spelt r countAt ≡ k = eqb-true _ _ (unless-zero _ BAD-COUNT (lit< tt) (q .1)) in
       head-is r endSize endKind by (h .0) (h .1) (h .2)
       ∙ ap (λ (t : List ℕ). head endSize endKind ++ t)
-      (spelt-split r 4 by (h .3) ∙ (λ i. le32 (count i) ++ drop endSize r))
+      (spelt-split r countAt by (h .3) ∙ (λ i. le32 (count i) ++ drop endSize r))
 
   -- a right Start is the Start of some block and at most 65,535 Steps, and the rest
   pub record Started (s : List ℕ) : Type 0 where
@@ -148,18 +153,18 @@ module _ (L : Layout) (LL : Lawful L) where
   start-is s by z =
       let q = else-zero (headNumber (startSize L) (L .startKind) s) _ z in
       let h = head-whole (startSize L) (L .startKind) s (q .0) in
-      let b : List ℕ = take (L .size) (drop 8 s) in
-      let block : drop 8 s ≡ b ++ drop (startSize L) s =
-      sym (take-append-drop (L .size) (drop 8 s)) ∙ ap (λ (t : List ℕ). b ++ t) (drop-drop (L .size) 8 s) in
+      let b : List ℕ = take (L .size) (drop startBlockAt s) in
+      let block : drop startBlockAt s ≡ b ++ drop (startSize L) s =
+      sym (take-append-drop (L .size) (drop startBlockAt s)) ∙ ap (λ (t : List ℕ). b ++ t) (drop-drop (L .size) startBlockAt s) in
       record {
-        count = spelt s 4;
+        count = spelt s countAt;
         block = b;
         rest = drop (startSize L) s;
-        few = leb-true _ _ (unless-zero _ 9 (q .1));
-        size = omega (arith, length-take (L .size) (drop 8 s), length-drop 8 s, h .3);
-        bytes = bytes-take (L .size) (drop 8 s) (bytes-drop 8 s by);
+        few = leb-true _ _ (unless-zero _ BAD-COUNT (lit< tt) (q .1));
+        size = omega (arith, length-take (L .size) (drop startBlockAt s), length-drop startBlockAt s, h .3);
+        bytes = bytes-take (L .size) (drop startBlockAt s) (bytes-drop startBlockAt s by);
         rest-bytes = bytes-drop (startSize L) s by;
         is = head-is s (startSize L) (L .startKind) by (h .0) (h .1) (h .2)
             ∙ ap (λ (t : List ℕ). head (startSize L) (L .startKind) ++ t)
-            (spelt-split s 4 by (omega (arith, h .3)) ∙ ap (λ (t : List ℕ). le32 (spelt s 4) ++ t) block);
+            (spelt-split s countAt by (omega (arith, h .3)) ∙ ap (λ (t : List ℕ). le32 (spelt s countAt) ++ t) block);
       }

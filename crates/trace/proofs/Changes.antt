@@ -1,40 +1,29 @@
 -- A published trace that was changed, cut or added to: the Steps before the harm are judged right as before, and the first
 -- record that is harmed shows it.
-use mathlib.Core.Path.{_≡_, refl, sym, ap, _∙_, subst}
-use mathlib.Core.Bool.{Bool, true, false}
+use mathlib.Core.Path.{_≡_, sym, ap, _∙_, subst}
 use mathlib.Core.Logic.{_⊎_, inl, inr}
 use mathlib.Core.List.{List, [], _∷_, _++_, append-assoc, append-nil}
 use Prim.Native.Nat.{ℕ, zero, suc, _+_, _-_, _*_, _<_, _≤_, _^_}
 use native.Mathlib.Omega.{arith}
 use native.Mathlib.Nat.{mul-zero, mul-suc}
-use lib.ListN.{length, take, drop, length-append, take-append-drop}
+use lib.ListN.{length, take, drop, getD, length-append, take-append-drop}
 use lib.Seq.{length-take-le, drop-cons}
-use lib.ListN.{getD}
-use lib.Dec.{leb}
-use borrow.Author.Tests.{leb-true, leb-false}
 use Rattle.words.specs.Word.{half, word, put, Bytes}
 use Rattle.words.proofs.Laws.{length-put, word-put-same}
 use Rattle.words.proofs.Spell.{half-front}
 use Rattle.rules.specs.declared.event.Event.{Event}
 use Rattle.rules.specs.declared.verdict.Answer.{Answer}
 use Rattle.trace.specs.Layout.{Layout, Lawful, startSize, stepSize, endSize, endKind, mostSteps, placeOf}
+use Rattle.trace.specs.Layout.{headSize, lengthAt, kindAt}
 use Rattle.trace.specs.Published.{IsEvent, IsAnswer, AreEvents, startRecord, endRecord, stepShowing, stepRecord}
 use Rattle.trace.specs.Published.{stepRecords, run, published}
 use Rattle.trace.specs.Report.{_else_, headNumber, startNumber, stepNumber, endNumber, report, SHORT, WRONG-STEP, TRAILING}
 use Rattle.trace.specs.Claims.{Falls, CutAt, in-start, in-step, in-end, changed}
-use Rattle.trace.proofs.Faults.{else-first, head-short, head-cut, head-whole}
+use Rattle.trace.proofs.Faults.{below, else-first, head-short, head-cut, head-whole}
 use Rattle.trace.proofs.Records.{end-head, length-end, start-head, step-head, shown-answer, shown-block}
 use Rattle.trace.proofs.Records.{length-run, bytes-run, length-published, take-begun, steps-append}
 use Rattle.trace.proofs.Judging.{from-wrong, end-wrong, end-more, start-wrong}
 use Rattle.trace.proofs.Accepts.{shown-wrong, report-begun, report-ending, end-number}
-
--- one number is below another, or not
-pub below : (m n : ℕ) → (m < n) ⊎ (n ≤ m)
-below m n = go (leb n m) refl
-  where
-    go : (t : Bool) → leb n m ≡ t → (m < n) ⊎ (n ≤ m)
-    go true e = inr (leb-true n m e)
-    go false e = inl (leb-false n m e)
 
 -- the events of the first part of a list are events, and so are those of the second
 pub are-first : (es fs : List Event) → AreEvents (es ++ fs) → AreEvents es
@@ -53,18 +42,7 @@ module _ (L : Layout) (LL : Lawful L) where
     pub unchanged : changed L b es e (L .answer (run L b es) e) (L .after (run L b es) e) fs
         ≡ published L b (es ++ e ∷ fs)
     unfolding changed published stepRecords
-    unchanged =
-        let n : ℕ = length es + suc (length fs) in
-        let l : n ≡ length (es ++ e ∷ fs) = sym (length-append es (e ∷ fs)) in
-        let c : List ℕ = run L b es in
-        let steps : stepRecords L b es ++ (stepRecord L c e ++ (stepRecords L (L .after c e) fs ++ endRecord n))
-        ≡ stepRecords L b (es ++ e ∷ fs) ++ endRecord n =
-        ap (λ (t : List ℕ). stepRecords L b es ++ t)
-        (sym (append-assoc (stepRecord L c e) (stepRecords L (L .after c e) fs) (endRecord n)))
-        ∙ sym (append-assoc (stepRecords L b es) (stepRecord L c e ++ stepRecords L (L .after c e) fs) (endRecord n))
-        ∙ ap (λ (t : List ℕ). t ++ endRecord n) (sym (steps-append L LL es (e ∷ fs) b)) in
-        ap (λ (t : List ℕ). startRecord L n b ++ t) steps
-        ∙ (λ i. startRecord L (l i) b ++ (stepRecords L b (es ++ e ∷ fs) ++ endRecord (l i)))
+    unchanged = simp (steps-append L LL es (e ∷ fs) b, append-assoc, length-append)
 
     module _ (h : length b ≡ L .size) (few : length (es ++ e ∷ fs) ≤ mostSteps) (words : AreEvents (es ++ e ∷ fs))
       where
@@ -95,10 +73,11 @@ module _ (L : Layout) (LL : Lawful L) where
             ≡ record { number = WRONG-STEP; place = placeOf L (length es); steps = length es }
         answer-changed by x ok n =
             let d : List ℕ = run L b es in
+            let size = length-run L LL es b h in
             let fits : IsAnswer (L .answer d e) =
-            record { number = LL .number-fits d e; value = LL .value-fits d e (bytes-run L LL es b by) }
+            record { number = LL .number-fits d e size; value = LL .value-fits d e size (bytes-run L LL es b h by) }
             in
-            step-changed x (L .after d e) (LL .length-after d e ∙ length-run L LL es b ∙ h)
+            step-changed x (L .after d e) (LL .length-after d e size)
             (λ q. n (shown-answer L LL e e x (L .answer d e) (L .after d e) (L .after d e) ok fits q))
 
         -- the block after was changed, in any byte, whatever answer is shown with it
@@ -115,7 +94,7 @@ module _ (L : Layout) (LL : Lawful L) where
             ≡ record { number = WRONG-STEP; place = placeOf L (length es); steps = length es }
         word-changed p w room fits n =
             let d : List ℕ = L .after (run L b es) e in
-            let l : length d ≡ L .size = LL .length-after (run L b es) e ∙ length-run L LL es b ∙ h in
+            let l : length d ≡ L .size = LL .length-after (run L b es) e (length-run L LL es b h) in
             block-changed (L .answer (run L b es) e) (put d p w) (length-put d p w ∙ l)
             (λ q. n (sym (word-put-same d p w (omega arith) fits) ∙ ap (λ (c : List ℕ). word c p) q))
 
@@ -130,9 +109,7 @@ module _ (L : Layout) (LL : Lawful L) where
   unfolding published
   more-refused b es t h few ok some =
       let n : ℕ = length es in
-      let is = append-assoc (startRecord L n b) (stepRecords L b es ++ endRecord n) t
-      ∙ ap (λ (l : List ℕ). startRecord L n b ++ l) (append-assoc (stepRecords L b es) (endRecord n) t) in
-      ap (report L) is
+      ap (report L) (simp append-assoc)
       ∙ report-ending L LL b es (endRecord n ++ t) few h ok
       ∙ end-more L n (placeOf L n) (endRecord n ++ t) (end-number L LL n t (omega arith))
       (omega (arith, length-append (endRecord n) t, length-end n))
@@ -143,19 +120,19 @@ module _ (L : Layout) (LL : Lawful L) where
   -- a whole record cut after j bytes is short, wherever the cut falls
   cut-short : (len kind : ℕ) (r : List ℕ) (j : ℕ) → headNumber len kind r ≡ 0 → j < len
       → headNumber len kind (take j r) ≡ SHORT
-  cut-short len kind r j z l = go (below j 4)
+  cut-short len kind r j z l = go (below j headSize)
     where
       long : length (take j r) ≡ j
       long = length-take-le j r (omega (arith, head-whole len kind r z .3))
 
-      go : (j < 4) ⊎ (4 ≤ j) → headNumber len kind (take j r) ≡ SHORT
+      go : (j < headSize) ⊎ (headSize ≤ j) → headNumber len kind (take j r) ≡ SHORT
       go (inl h) = head-short len kind (take j r) (omega (arith, long))
       go (inr h) =
           let whole = head-whole len kind r z in
           let split = take-append-drop j r in
-          let a = sym (half-front (take j r) (drop j r) 0 (omega (arith, long))) ∙ ap (λ (s : List ℕ). half s 0) split
+          let a = sym (half-front (take j r) (drop j r) lengthAt (omega (arith, long))) ∙ ap (λ (s : List ℕ). half s lengthAt) split
           ∙ whole .1 in
-          let b = sym (half-front (take j r) (drop j r) 2 (omega (arith, long))) ∙ ap (λ (s : List ℕ). half s 2) split
+          let b = sym (half-front (take j r) (drop j r) kindAt (omega (arith, long))) ∙ ap (λ (s : List ℕ). half s kindAt) split
           ∙ whole .2 in
           head-cut len kind (take j r) (omega (arith, long)) a b (omega (arith, long))
 
@@ -205,7 +182,7 @@ module _ (L : Layout) (LL : Lawful L) where
         let next : drop k es ≡ e ∷ gs = drop-cons es k none less in
         let t : List ℕ = stepRecords L (L .after c e) gs ++ endRecord n in
         let r : List ℕ = stepRecord L c e ++ t in
-        let size : length (L .after c e) ≡ L .size = LL .length-after c e ∙ length-run L LL fs b ∙ h in
+        let size : length (L .after c e) ≡ L .size = LL .length-after c e (length-run L LL fs b h) in
         let j : ℕ = l - placeOf L k in
         let short : j < stepSize L = omega (arith, mul-suc (stepSize L) k) in
         let at : l ≡ placeOf L (length fs) + j = omega (arith, ap (λ (i : ℕ). stepSize L * i) many) in

@@ -13,17 +13,19 @@ use Rattle.words.specs.Word.{le16, le32, spelt, Bytes}
 use Rattle.words.proofs.Spell.{bytes-none, bytes-append, bytes-half, bytes-word, bytes-zeros}
 use Rattle.rules.specs.declared.event.Event.{Event}
 use Rattle.rules.specs.declared.verdict.Answer.{Answer}
-use Rattle.trace.specs.declared.Report.{Report}
-use Rattle.trace.specs.Layout.{Layout, Lawful, headSize, stepSize, mostSteps, placeOf, countAt}
-use Rattle.trace.specs.Published.{IsEvent, IsAnswer, AreEvents, head, eventBytes, answerBytes, startRecord}
+use Rattle.trace.specs.declared.check.Report.{Report}
+use Rattle.trace.specs.Layout.{Layout, Lawful, headSize, startSize, stepSize, endSize, endKind, mostSteps, placeOf, countAt}
+use Rattle.trace.specs.Published.{IsEvent, IsAnswer, AreEvents, head, eventBytes, startRecord}
+use Rattle.rules.specs.Step.{answerBytes}
 use Rattle.trace.specs.Published.{endRecord, stepShowing, stepRecord, stepRecords, run, published, Published}
 use Rattle.trace.specs.Report.{report, ACCEPTED, WRONG-STEP}
 use Rattle.trace.specs.Claims.{Meets, changed, ChangedAt, RefusesAll, AcceptsAll, ReadsStartAndEndOnly}
-use Rattle.trace.specs.Claims.{WalksTheOthers, InStep, InLaterBody}
+use Rattle.trace.specs.Claims.{WalksTheOthers}
 use Rattle.trace.proofs.Records.{shown-answer, length-run, bytes-run, length-begun, length-published}
 use Rattle.trace.proofs.Accepts.{published-accepted}
 use Rattle.trace.proofs.Refusals.{accepts-exactly}
-use Rattle.trace.proofs.Changes.{below, unchanged, step-changed}
+use Rattle.trace.proofs.Faults.{below}
+use Rattle.trace.proofs.Changes.{unchanged, step-changed}
 use Rattle.trace.proofs.Determined.{count-read}
 
 -- ---- what is published is bytes
@@ -33,7 +35,7 @@ bytes-head len kind = bytes-append (le16 len) (le16 kind) (bytes-half len) (byte
 
 bytes-end : (n : ℕ) → Bytes (endRecord n)
 unfolding endRecord
-bytes-end n = bytes-append (head 8 3) (le32 n) (bytes-head 8 3) (bytes-word n)
+bytes-end n = bytes-append (head endSize endKind) (le32 n) (bytes-head endSize endKind) (bytes-word n)
 
 -- ---- strings that differ at some places alone
 
@@ -70,33 +72,33 @@ module _ (L : Layout) (LL : Lawful L) where
   bytes-start : (n : ℕ) (b : List ℕ) → Bytes b → Bytes (startRecord L n b)
   unfolding startRecord
   bytes-start n b h =
-      bytes-append (head (8 + L .size) (L .startKind)) (le32 n ++ b) (bytes-head (8 + L .size) (L .startKind))
+      bytes-append (head (startSize L) (L .startKind)) (le32 n ++ b) (bytes-head (startSize L) (L .startKind))
       (bytes-append (le32 n) b (bytes-word n) h)
 
   bytes-step : (e : Event) (x : Answer) (c : List ℕ) → Bytes c → Bytes (stepShowing L e x c)
   unfolding stepShowing
   bytes-step e x c h =
-      bytes-append (head (24 + L .size) (L .stepKind)) (eventBytes e ++ (answerBytes x ++ c))
-      (bytes-head (24 + L .size) (L .stepKind))
+      bytes-append (head (stepSize L) (L .stepKind)) (eventBytes e ++ (answerBytes x ++ c))
+      (bytes-head (stepSize L) (L .stepKind))
       (bytes-append (eventBytes e) (answerBytes x ++ c)
       (bytes-append (le32 (e .code)) (le32 (e .a) ++ le32 (e .b)) (bytes-word (e .code))
       (bytes-append (le32 (e .a)) (le32 (e .b)) (bytes-word (e .a)) (bytes-word (e .b))))
       (bytes-append (answerBytes x) c
       (bytes-append (le32 (x .number)) (le32 (x .value)) (bytes-word (x .number)) (bytes-word (x .value))) h))
 
-  bytes-steps : (es : List Event) (b : List ℕ) → Bytes b → Bytes (stepRecords L b es)
+  bytes-steps : (es : List Event) (b : List ℕ) → length b ≡ L .size → Bytes b → Bytes (stepRecords L b es)
   unfolding stepRecords
-  bytes-steps [] b h = bytes-none
-  bytes-steps (e ∷ es) b h =
-      let k = LL .bytes-after b e h in
+  bytes-steps [] b h by = bytes-none
+  bytes-steps (e ∷ es) b h by =
+      let k = LL .bytes-after b e h by in
       bytes-append (stepRecord L b e) (stepRecords L (L .after b e) es)
-      (bytes-step e (L .answer b e) (L .after b e) k) (bytes-steps es (L .after b e) k)
+      (bytes-step e (L .answer b e) (L .after b e) k) (bytes-steps es (L .after b e) (LL .length-after b e h) k)
 
-  pub bytes-published : (b : List ℕ) (es : List Event) → Bytes b → Bytes (published L b es)
+  pub bytes-published : (b : List ℕ) (es : List Event) → length b ≡ L .size → Bytes b → Bytes (published L b es)
   unfolding published
-  bytes-published b es h =
-      bytes-append (startRecord L (length es) b) _ (bytes-start (length es) b h)
-      (bytes-append (stepRecords L b es) (endRecord (length es)) (bytes-steps es b h) (bytes-end (length es)))
+  bytes-published b es h by =
+      bytes-append (startRecord L (length es) b) _ (bytes-start (length es) b by)
+      (bytes-append (stepRecords L b es) (endRecord (length es)) (bytes-steps es b h by) (bytes-end (length es)))
 
   -- ---- one checker only
 
@@ -118,7 +120,7 @@ module _ (L : Layout) (LL : Lawful L) where
   pub not-refusing-all : (f : List ℕ → Report) → RefusesAll L f → Meets L f → ⊥
   not-refusing-all f h m =
       let s : List ℕ = published L zeros [] in
-      let by : Bytes s = bytes-published zeros [] (bytes-zeros (L .size)) in
+      let by : Bytes s = bytes-published zeros [] zeros-size (bytes-zeros (L .size)) in
       h s by
       (ap (λ (v : Report). v .number)
       (m .reports s by ∙ published-accepted L LL zeros [] zeros-size (omega arith) tt))
@@ -132,18 +134,23 @@ module _ (L : Layout) (LL : Lawful L) where
 
   -- ---- each Step is looked at
 
-  bytes-changed : (b : List ℕ) (es : List Event) (e : Event) (x : Answer) (c : List ℕ) (fs : List Event) → Bytes b
+  bytes-changed : (b : List ℕ) (es : List Event) (e : Event) (x : Answer) (c : List ℕ) (fs : List Event)
+      → length b ≡ L .size
+      → Bytes b
       → Bytes c
       → Bytes (changed L b es e x c fs)
   unfolding changed
-  bytes-changed b es e x c fs h k =
+  bytes-changed b es e x c fs h by k =
       let n : ℕ = length es + suc (length fs) in
-      let d : List ℕ = L .after (run L b es) e in
-      bytes-append (startRecord L n b) _ (bytes-start n b h)
-      (bytes-append (stepRecords L b es) _ (bytes-steps es b h)
+      let c′ : List ℕ = run L b es in
+      let d : List ℕ = L .after c′ e in
+      let size : length c′ ≡ L .size = length-run L LL es b h in
+      bytes-append (startRecord L n b) _ (bytes-start n b by)
+      (bytes-append (stepRecords L b es) _ (bytes-steps es b h by)
       (bytes-append (stepShowing L e x c) _ (bytes-step e x c k)
       (bytes-append (stepRecords L d fs) (endRecord n)
-      (bytes-steps fs d (LL .bytes-after (run L b es) e (bytes-run L LL es b h))) (bytes-end n))))
+      (bytes-steps fs d (LL .length-after c′ e size) (LL .bytes-after c′ e size (bytes-run L LL es b h by)))
+      (bytes-end n))))
 
   module _ (b : List ℕ) (es : List Event) (e : Event) (fs : List Event) (h : length b ≡ L .size) where
     -- one that is blind to a Step does not meet it, whichever Step it is: a published trace keeps its number where that
@@ -154,9 +161,9 @@ module _ (L : Layout) (LL : Lawful L) where
           → f (published L b (es ++ e ∷ fs)) .number ≡ f (changed L b es e x c fs) .number
           → Meets L f → ⊥
       not-blind f x c size bc n q m =
-          let yes = m .reports (published L b (es ++ e ∷ fs)) (bytes-published b (es ++ e ∷ fs) by)
+          let yes = m .reports (published L b (es ++ e ∷ fs)) (bytes-published b (es ++ e ∷ fs) h by)
           ∙ published-accepted L LL b (es ++ e ∷ fs) h few words in
-          let no = m .reports (changed L b es e x c fs) (bytes-changed b es e x c fs by bc)
+          let no = m .reports (changed L b es e x c fs) (bytes-changed b es e x c fs h by bc)
           ∙ step-changed L LL b es e fs h few words x c size n in
           let number : Report → ℕ = λ v. v .number in
           let z : _≡_ {A = ℕ} ACCEPTED WRONG-STEP = sym (ap number yes) ∙ q ∙ ap number no in
@@ -176,7 +183,7 @@ module _ (L : Layout) (LL : Lawful L) where
         let right : List ℕ = body (L .answer d e) (L .after d e) in
         let long : length before ≡ placeOf L (length es) + headSize =
         simp length-append (omega (arith, simp length-append at (length-begun L LL n b es h))) in
-        let size-right = LL .length-after d e ∙ length-run L LL es b ∙ h in
+        let size-right = LL .length-after d e (length-run L LL es b h) in
         let s : published L b (es ++ e ∷ fs) ≡ before ++ (right ++ behind) =
         sym (unchanged L LL b es e fs) ∙ sym (simp append-assoc) in
         let t : changed L b es e x c fs ≡ before ++ (body x c ++ behind) = sym (simp append-assoc) in
@@ -211,16 +218,17 @@ module _ (L : Layout) (LL : Lawful L) where
       let first : List Event = none ∷ [] in
       let both : List Event = none ∷ none ∷ [] in
       let d : List ℕ = run L zeros first in
-      let by : Bytes d = bytes-run L LL first zeros (bytes-zeros (L .size)) in
+      let long : length d ≡ L .size = length-run L LL first zeros zeros-size in
+      let by : Bytes d = bytes-run L LL first zeros zeros-size (bytes-zeros (L .size)) in
       let c : List ℕ = L .after d none in
-      let bytes : Bytes c = LL .bytes-after d none by in
-      let size : length c ≡ L .size = LL .length-after d none ∙ length-run L LL first zeros ∙ zeros-size in
+      let bytes : Bytes c = LL .bytes-after d none long by in
+      let size : length c ≡ L .size = LL .length-after d none long in
       let right : Answer = L .answer d none in
       let wrong : Answer = record { number = other (right .number); value = right .value } in
       let right-fits : IsAnswer right =
-      record { number = LL .number-fits d none; value = LL .value-fits d none by } in
+      record { number = LL .number-fits d none long; value = LL .value-fits d none long by } in
       let wrong-fits : IsAnswer wrong =
-      record { number = other-fits (right .number); value = LL .value-fits d none by } in
+      record { number = other-fits (right .number); value = LL .value-fits d none long by } in
       let s : Published L (published L zeros both) =
       record {
         start = zeros;
@@ -235,7 +243,7 @@ module _ (L : Layout) (LL : Lawful L) where
       not-blind zeros first none [] zeros-size (s .bytes) (s .few) (s .words) f wrong c size bytes
       (λ q. other-differs (right .number)
       (ap (λ (x : Answer). x .number) (shown-answer L LL none none wrong right c c wrong-fits right-fits q)))
-      (walks _ _ s (bytes-changed zeros first none wrong c [] (s .bytes) bytes)
+      (walks _ _ s (bytes-changed zeros first none wrong c [] zeros-size (s .bytes) bytes)
       (changed-within
       (λ i p.
       record {

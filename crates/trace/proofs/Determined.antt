@@ -6,7 +6,7 @@ use native.Mathlib.Omega.{arith}
 use lib.ListN.{length, drop}
 use Rattle.words.specs.Word.{spelt}
 use Rattle.rules.specs.declared.event.Event.{Event}
-use Rattle.trace.specs.Layout.{Layout, Lawful, startSize}
+use Rattle.trace.specs.Layout.{Layout, Lawful, startSize, countAt}
 use Rattle.trace.specs.Published.{AreEvents, endRecord, stepRecord, stepRecords, published, Published}
 use Rattle.trace.specs.Claims.{startOf, eventsFrom, eventsOf}
 use Rattle.trace.proofs.Records.{start-count, start-block, start-rest, step-event, step-rest}
@@ -18,7 +18,7 @@ module _ (L : Layout) (LL : Lawful L) where
   events-back [] b t h ok = refl
   events-back (e ∷ es) b t h ok =
       let u : List ℕ = stepRecords L (L .after b e) es ++ t in
-      let l = LL .length-after b e ∙ h in
+      let l = LL .length-after b e h in
       ap (eventsFrom L (suc (length es))) (append-assoc (stepRecord L b e) (stepRecords L (L .after b e) es) t)
       ∙ (λ i. step-event L LL e (L .answer b e) (L .after b e) l u (ok .0) i ∷ eventsFrom L (length es)
       (step-rest L LL e (L .answer b e) (L .after b e) l u i))
@@ -26,10 +26,10 @@ module _ (L : Layout) (LL : Lawful L) where
 
   module _ (s : List ℕ) (p : Published L s) where
     -- the Start counts the events
-    pub count-read : spelt s 4 ≡ length (p .events)
+    pub count-read : spelt s countAt ≡ length (p .events)
     unfolding published
     count-read =
-        ap (λ (l : List ℕ). spelt l 4) (p .is)
+        ap (λ (l : List ℕ). spelt l countAt) (p .is)
         ∙ start-count L LL (length (p .events)) (p .start)
         (stepRecords L (p .start) (p .events) ++ endRecord (length (p .events))) (p .size) (omega (arith, p .few))
 

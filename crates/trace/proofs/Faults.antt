@@ -1,19 +1,33 @@
 -- How faults add up: the first one wins, so a chain is 0 only where each link is, and each number says which test failed.
-use mathlib.Core.Path.{_≡_, refl, sym, _∙_, subst}
+use mathlib.Core.Path.{_≡_, refl, subst}
 use mathlib.Core.Bool.{Bool, true, false, _&&_}
+use mathlib.Core.Logic.{_⊎_, inl, inr}
 use mathlib.Core.List.{List, [], _∷_}
 use Prim.Native.Nat.{ℕ, zero, suc, _<_, _≤_}
 use native.Mathlib.Omega.{arith}
 use lib.ListN.{length}
-use lib.Dec.{eqb, leb}
-use borrow.Author.Tests.{le-leb, lt-leb, eq-eqb, ne-eqb, leb-true, eqb-true}
+use lib.Dec.{eqb, leb, lit<}
+use borrow.Author.Tests.{le-leb, lt-leb, eq-eqb, ne-eqb, leb-true, leb-false, eqb-true}
 use Rattle.words.specs.Word.{half}
-use Rattle.trace.specs.declared.Report.{Report}
+use Rattle.trace.specs.declared.check.Report.{Report}
+use Rattle.trace.specs.Layout.{headSize, lengthAt, kindAt}
 use Rattle.trace.specs.Report.{unless, _else_, refused, sameBytes, headNumber, SHORT, BAD-RECORD}
 
 -- true and false differ
 pub differ : {X : Type 0} → false ≡ true → X
 differ e = absurd (let z : _≡_ {A = ℕ} 0 1 = cc in omega arith)
+
+-- a number is 0, or not; it is below another, or not
+pub zero-or-not : (n : ℕ) → (n ≡ 0) ⊎ (n ≡ 0 → ⊥)
+zero-or-not zero = inl refl
+zero-or-not (suc n) = inr (λ e. omega arith)
+
+pub below : (m n : ℕ) → (m < n) ⊎ (n ≤ m)
+below m n = go (leb n m) refl
+  where
+    go : (t : Bool) → leb n m ≡ t → (m < n) ⊎ (n ≤ m)
+    go true e = inr (leb-true n m e)
+    go false e = inl (leb-false n m e)
 
 -- ---- the first fault of two
 
@@ -29,9 +43,9 @@ pub else-zero : (n m : ℕ) → (n else m) ≡ 0 → (n ≡ 0) × (m ≡ 0)
 else-zero zero m h = (refl, h)
 else-zero (suc n) m h = absurd (omega arith)
 
-pub unless-zero : (t : Bool) (n : ℕ) → unless t (suc n) ≡ 0 → t ≡ true
-unless-zero true n h = refl
-unless-zero false n h = absurd (omega arith)
+pub unless-zero : (t : Bool) (f : ℕ) → 0 < f → unless t f ≡ 0 → t ≡ true
+unless-zero true f l h = refl
+unless-zero false f l h = absurd (omega arith)
 
 -- ---- a report, or what is said of the rest
 
@@ -78,45 +92,40 @@ same-no xs ys h = go (sameBytes xs ys) refl
 -- ---- a record's head
 
 module _ (len kind : ℕ) (r : List ℕ) where
-  pub head-short : length r < 4 → headNumber len kind r ≡ SHORT
+  pub head-short : length r < headSize → headNumber len kind r ≡ SHORT
   unfolding headNumber
   head-short h = simp (lt-leb _ _ h)
 
-  pub head-len : 4 ≤ length r → (half r 0 ≡ len → ⊥) → headNumber len kind r ≡ BAD-RECORD
-  unfolding headNumber
-  head-len h a = simp (le-leb _ _ h, ne-eqb _ _ a)
-
-  pub head-kind : 4 ≤ length r → half r 0 ≡ len → (half r 2 ≡ kind → ⊥) → headNumber len kind r ≡ BAD-RECORD
-  unfolding headNumber
-  head-kind h a b = simp (le-leb _ _ h, eq-eqb _ _ a, ne-eqb _ _ b)
-
-  pub head-cut : 4 ≤ length r → half r 0 ≡ len → half r 2 ≡ kind → length r < len → headNumber len kind r ≡ SHORT
+  pub head-cut : headSize ≤ length r → half r lengthAt ≡ len → half r kindAt ≡ kind → length r < len
+      → headNumber len kind r ≡ SHORT
   unfolding headNumber
   head-cut h a b k = simp (le-leb _ _ h, eq-eqb _ _ a, eq-eqb _ _ b, lt-leb _ _ k)
 
-  pub head-right : 4 ≤ length r → half r 0 ≡ len → half r 2 ≡ kind → len ≤ length r → headNumber len kind r ≡ 0
+  pub head-right : headSize ≤ length r → half r lengthAt ≡ len → half r kindAt ≡ kind → len ≤ length r
+      → headNumber len kind r ≡ 0
   unfolding headNumber
   head-right h a b k = simp (le-leb _ _ h, eq-eqb _ _ a, eq-eqb _ _ b, le-leb _ _ k)
 
   -- the length and the kind are not both those due
-  pub head-bad : 4 ≤ length r → (half r 0 ≡ len → half r 2 ≡ kind → ⊥) → headNumber len kind r ≡ BAD-RECORD
-  head-bad h n = go (eqb (half r 0) len) refl
+  pub head-bad : headSize ≤ length r → (half r lengthAt ≡ len → half r kindAt ≡ kind → ⊥)
+      → headNumber len kind r ≡ BAD-RECORD
+  unfolding headNumber
+  head-bad h n = go (eqb (half r lengthAt) len) refl
     where
-      go : (t : Bool) → eqb (half r 0) len ≡ t → headNumber len kind r ≡ BAD-RECORD
-      go true e = head-kind h (eqb-true _ _ e) (n (eqb-true _ _ e))
-      go false e = head-len h (λ q. differ (sym e ∙ eq-eqb _ _ q))
+      go : (t : Bool) → eqb (half r lengthAt) len ≡ t → headNumber len kind r ≡ BAD-RECORD
+      go true e = simp (le-leb _ _ h, e, ne-eqb _ _ (n (eqb-true _ _ e)))
+      go false e = simp (le-leb _ _ h, e)
 
   -- and back: what each number says of the head
   pub head-whole : headNumber len kind r ≡ 0
-      → (4 ≤ length r) × (half r 0 ≡ len) × (half r 2 ≡ kind) × (len ≤ length r)
+      → (headSize ≤ length r) × (half r lengthAt ≡ len) × (half r kindAt ≡ kind) × (len ≤ length r)
   unfolding headNumber
   head-whole h =
-      let p = else-zero (unless (leb 4 (length r)) SHORT) _ h in
-      let q = else-zero (unless (eqb (half r 0) len) BAD-RECORD) _ (p .1) in
-      let w = else-zero (unless (eqb (half r 2) kind) BAD-RECORD) _ (q .1) in (
-        leb-true _ _ (unless-zero _ 7 (p .0)),
-        eqb-true _ _ (unless-zero _ 8 (q .0)),
-        eqb-true _ _
-            (unless-zero _ 8 (w .0)),
-        leb-true _ _ (unless-zero _ 7 (w .1)),
+      let p = else-zero (unless (leb headSize (length r)) SHORT) _ h in
+      let q = else-zero (unless (eqb (half r lengthAt) len) BAD-RECORD) _ (p .1) in
+      let w = else-zero (unless (eqb (half r kindAt) kind) BAD-RECORD) _ (q .1) in (
+        leb-true _ _ (unless-zero _ SHORT (lit< tt) (p .0)),
+        eqb-true _ _ (unless-zero _ BAD-RECORD (lit< tt) (q .0)),
+        eqb-true _ _ (unless-zero _ BAD-RECORD (lit< tt) (w .0)),
+        leb-true _ _ (unless-zero _ SHORT (lit< tt) (w .1)),
       )

@@ -10,27 +10,31 @@ use native.Mathlib.Nat.{mul-zero, mul-suc}
 use native.Mathlib.Numerals.{add-one}
 use lib.ListN.{length, take, drop, length-take, length-drop, drop-of-length-le}
 use lib.Seq.{take-all, take-length, drop-drop}
+use lib.Dec.{lit<}
 use borrow.Author.Tests.{le-leb, lt-leb, leb-true}
 use Rattle.words.specs.Word.{half, spelt, Bytes}
 use Rattle.words.proofs.Spell.{two-halves, as-word}
 use Rattle.rules.specs.declared.event.Event.{Event}
 use Rattle.rules.specs.declared.verdict.Answer.{Answer}
 use Rattle.trace.specs.Layout.{Layout, Lawful, startSize, stepSize, endSize, mostSteps, placeOf, blockAfterAt}
+use Rattle.trace.specs.Layout.{headSize, lengthAt, kindAt, countAt, startBlockAt, codeAt, aAt, bAt}
 use Rattle.trace.specs.Published.{IsAnswer, stepShowing, stepRecord}
-use Rattle.trace.specs.Report.{_else_, headNumber, startNumber, stepNumber, endNumber, endReport, reportFrom, report, eventOf, refused, BAD-RECORD, WRONG-STEP, TRAILING}
+use Rattle.trace.specs.Report.{_else_, headNumber, startNumber, stepNumber, endNumber, endReport, reportFrom, report}
+use Rattle.trace.specs.Report.{eventOf, refused, BAD-RECORD, BAD-COUNT, WRONG-STEP, TRAILING}
 use Rattle.trace.specs.Judged.{Shows, Judged}
-use Rattle.trace.proofs.Faults.{differ, else-first, else-zero, unless-zero, same-yes, same-no, head-bad, head-whole, refused-on, refused-at}
-use Rattle.trace.proofs.Records.{answerOf, answer-fits, event-fits, step-shows, shown-answer, shown-block}
+use Rattle.trace.proofs.Faults.{differ, else-first, else-zero, unless-zero, same-yes, same-no, head-bad, head-whole}
+use Rattle.trace.proofs.Faults.{refused-on, refused-at}
+use Rattle.trace.proofs.Records.{answerOf, answer-fits, step-shows, shown-answer, shown-block}
 
 -- ---- heads
 
 module _ (len kind : ℕ) (r : List ℕ) (by : Bytes r) (small : len < 2 ^ 16) where
   -- the first word is not that of the head due
-  pub word-bad : 4 ≤ length r → (spelt r 0 ≡ len + 65536 * kind → ⊥) → headNumber len kind r ≡ BAD-RECORD
+  pub word-bad : headSize ≤ length r → (spelt r lengthAt ≡ len + 65536 * kind → ⊥) → headNumber len kind r ≡ BAD-RECORD
   word-bad h n = head-bad len kind r h (λ p q. n (as-word r len kind p q))
 
   -- it is, so both halves are
-  pub word-right : spelt r 0 ≡ len + 65536 * kind → (half r 0 ≡ len) × (half r 2 ≡ kind)
+  pub word-right : spelt r lengthAt ≡ len + 65536 * kind → (half r lengthAt ≡ len) × (half r kindAt ≡ kind)
   word-right e = two-halves r len kind by small e
 
 -- a fault of the head is the record's
@@ -56,15 +60,16 @@ module _ (L : Layout) (LL : Lawful L) (r b : List ℕ) where
   judged-head h c e n =
       record { number = fault-first (stepSize L) (L .stepKind) r h _ e n; block = λ z. absurd (n z) }
 
-  module _ (by : Bytes r) (bb : Bytes b) (z : headNumber (stepSize L) (L .stepKind) r ≡ 0) (c : List ℕ) where
+  module _ (size : length b ≡ L .size) (by : Bytes r) (bb : Bytes b)
+      (z : headNumber (stepSize L) (L .stepKind) r ≡ 0) (c : List ℕ) where
     rules-fit : IsAnswer (L .answer b (eventOf r))
     rules-fit =
         record {
-          number = LL .number-fits b (eventOf r);
-          value = LL .value-fits b (eventOf r) bb;
+          number = LL .number-fits b (eventOf r) size;
+          value = LL .value-fits b (eventOf r) size bb;
         }
 
-    shows : take (stepSize L) r ≡ stepShowing L (eventOf r) (answerOf r) (take (L .size) (drop 24 r))
+    shows : take (stepSize L) r ≡ stepShowing L (eventOf r) (answerOf r) (take (L .size) (drop blockAfterAt r))
     shows = step-shows L LL r by z (head-whole (stepSize L) (L .stepKind) r z)
 
     -- anything but what the rules give
@@ -112,7 +117,7 @@ step-whole L b r z =
     head-whole (stepSize L) (L .stepKind) r (else-zero (headNumber (stepSize L) (L .stepKind) r) _ z .0) .3
 
 -- the event read off a Step's words, and what the rules give on it
-pub event-read : (r : List ℕ) (x y w : ℕ) → x ≡ spelt r 4 → y ≡ spelt r 8 → w ≡ spelt r 12
+pub event-read : (r : List ℕ) (x y w : ℕ) → x ≡ spelt r codeAt → y ≡ spelt r aAt → w ≡ spelt r bAt
     → _≡_ {A = Event} (record { code = x; a = y; b = w }) (eventOf r)
 event-read r x y w p q s = λ i. record { code = p i; a = q i; b = s i }
 
@@ -167,19 +172,19 @@ module _ (L : Layout) where
     start-wrong z = refused-at (startNumber L s) 0 0 _ z
 
     pub start-right : startNumber L s ≡ 0
-        → report L s ≡ reportFrom L (spelt s 4) 0 (take (L .size) (drop 8 s)) (drop (startSize L) s)
+        → report L s ≡ reportFrom L (spelt s countAt) 0 (take (L .size) (drop startBlockAt s)) (drop (startSize L) s)
     unfolding report
     start-right z = refused-on (startNumber L s) 0 0 _ z
 
 -- a right Start is whole and counts at most 65,535 Steps; its block is whole too
-pub start-whole : (L : Layout) (s : List ℕ) → startNumber L s ≡ 0 → (startSize L ≤ length s) × (spelt s 4 ≤ mostSteps)
+pub start-whole : (L : Layout) (s : List ℕ) → startNumber L s ≡ 0 → (startSize L ≤ length s) × (spelt s countAt ≤ mostSteps)
 unfolding startNumber
 start-whole L s z =
     let q = else-zero (headNumber (startSize L) (L .startKind) s) _ z in
-    (head-whole (startSize L) (L .startKind) s (q .0) .3, leb-true _ _ (unless-zero _ 9 (q .1)))
+    (head-whole (startSize L) (L .startKind) s (q .0) .3, leb-true _ _ (unless-zero _ BAD-COUNT (lit< tt) (q .1)))
 
-pub block-whole : (L : Layout) (s : List ℕ) → startNumber L s ≡ 0 → length (take (L .size) (drop 8 s)) ≡ L .size
-block-whole L s z = omega (arith, length-take (L .size) (drop 8 s), length-drop 8 s, start-whole L s z .0)
+pub block-whole : (L : Layout) (s : List ℕ) → startNumber L s ≡ 0 → length (take (L .size) (drop startBlockAt s)) ≡ L .size
+block-whole L s z = omega (arith, length-take (L .size) (drop startBlockAt s), length-drop startBlockAt s, start-whole L s z .0)
 
 -- ---- the loop over the Steps
 
@@ -222,7 +227,7 @@ module _ (L : Layout) (LL : Lawful L) (trace : List ℕ) (steps : ℕ) (first bl
         few = omega arith;
         at = omega (arith, ap (λ (j : ℕ). stepSize L * j) (add-one k), mul-suc (stepSize L) k);
         inside = omega (arith, length-drop place trace);
-        size = ap length e ∙ LL .length-after block (eventOf r) ∙ at .size;
+        size = ap length e ∙ LL .length-after block (eventOf r) (at .size);
         same = at .same
             ∙ from-right L (steps - k) k block r (omega arith) z
             ∙ (λ i. reportFrom L (m i) (k + 1) (sym e i) (drop-drop (stepSize L) place trace i));

@@ -1,4 +1,5 @@
 -- Document 01's layout is lawful: its numbers are small, and the step keeps a block's size and bytes and answers words.
+use mathlib.Core.Path.{_∙_}
 use lib.Dec.{lit<}
 use Rattle.machine.proofs.Laws.{length-after, bytes-after, number-fits, value-fits}
 use Rattle.trace.specs.Layout.{layout01, Lawful}
@@ -9,8 +10,8 @@ lawful01 =
       step-fits = lit< tt;
       start-kind-fits = lit< tt;
       step-kind-fits = lit< tt;
-      length-after = length-after;
-      bytes-after = bytes-after;
-      number-fits = number-fits;
-      value-fits = value-fits;
+      length-after = λ b e h. length-after b e ∙ h;
+      bytes-after = λ b e h. bytes-after b e;
+      number-fits = λ b e h. number-fits b e;
+      value-fits = λ b e h. value-fits b e;
     }

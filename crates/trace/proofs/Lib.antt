@@ -5,6 +5,7 @@ pub mod Judging
 pub mod Accepts
 pub mod Outcomes
 pub mod Own
+pub mod Told
 pub mod Refusals
 pub mod Changes
 pub mod Determined

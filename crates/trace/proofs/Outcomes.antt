@@ -1,7 +1,7 @@
 -- Every string of bytes is a longest beginning of right records and a rest. The report is decided at the first record of
 -- the rest: a Start that is wrong, a Step that is wrong, or the End.
-use mathlib.Core.Path.{_≡_, refl, sym, ap, _∙_}
-use mathlib.Core.Logic.{_⊎_, inl, inr}
+use mathlib.Core.Path.{_≡_, refl, ap, _∙_}
+use mathlib.Core.Logic.{_⊎_, inl, inr, ⊎-elim}
 use mathlib.Core.List.{List, [], _∷_, _++_, append-assoc}
 use Prim.Native.Nat.{ℕ, zero, suc, _+_, _-_, _<_, _≤_}
 use native.Mathlib.Omega.{arith}
@@ -9,9 +9,11 @@ use lib.ListN.{length, drop}
 use Rattle.words.specs.Word.{spelt, Bytes}
 use Rattle.words.proofs.Spell.{bytes-drop}
 use Rattle.rules.specs.declared.event.Event.{Event}
-use Rattle.trace.specs.Layout.{Layout, Lawful, stepSize, mostSteps, placeOf}
+use Rattle.rules.specs.Run.{runBy}
+use Rattle.trace.specs.Layout.{Layout, Lawful, stepSize, mostSteps, placeOf, countAt}
 use Rattle.trace.specs.Published.{AreEvents, startRecord, stepRecord, stepRecords, run}
 use Rattle.trace.specs.Report.{startNumber, stepNumber, endReport, reportFrom, report, eventOf}
+use Rattle.trace.proofs.Faults.{zero-or-not}
 use Rattle.trace.proofs.Records.{event-fits, start-count}
 use Rattle.trace.proofs.Judging.{from-wrong, from-end}
 use Rattle.trace.proofs.Accepts.{Started, start-is, step-is, report-begun}
@@ -30,15 +32,17 @@ module _ (L : Layout) (LL : Lawful L) where
     pub stuck : (left ≡ 0) ⊎ (stepNumber L (run L b events) rest ≡ 0 → ⊥)
 
   pub come : (m : ℕ) (b r : List ℕ) → Bytes r → Came m b r
-  unfolding stepRecords run
+  unfolding stepRecords runBy
   come zero b r by =
       record { events = []; left = 0; rest = r; count = refl; words = tt; bytes = by; is = refl; stuck = inl refl }
   come (suc m) b r by =
-      go (stepNumber L b r) refl (come m (L .after b (eventOf r)) (drop (stepSize L) r)
-      (bytes-drop (stepSize L) r by))
+      go (zero-or-not (stepNumber L b r))
+      (come m (L .after b (eventOf r)) (drop (stepSize L) r) (bytes-drop (stepSize L) r by))
     where
-      go : (n : ℕ) → stepNumber L b r ≡ n → Came m (L .after b (eventOf r)) (drop (stepSize L) r) → Came (suc m) b r
-      go zero z more =
+      go : (stepNumber L b r ≡ 0) ⊎ (stepNumber L b r ≡ 0 → ⊥)
+          → Came m (L .after b (eventOf r)) (drop (stepSize L) r)
+          → Came (suc m) b r
+      go (inl z) more =
           record {
             events = eventOf r ∷ more .events;
             left = more .left;
@@ -48,11 +52,10 @@ module _ (L : Layout) (LL : Lawful L) where
             bytes = more .bytes;
             is = step-is L LL b r z
                 ∙ ap (λ (t : List ℕ). stepRecord L b (eventOf r) ++ t) (more .is)
-                ∙ sym (append-assoc (stepRecord L b (eventOf r))
-                (stepRecords L (L .after b (eventOf r)) (more .events)) (more .rest));
+                ∙ simp append-assoc;
             stuck = more .stuck;
           }
-      go (suc n) z more =
+      go (inr z) more =
           record {
             events = [];
             left = suc m;
@@ -61,7 +64,7 @@ module _ (L : Layout) (LL : Lawful L) where
             words = tt;
             bytes = by;
             is = refl;
-            stuck = inr (λ e. absurd (let w : suc n ≡ 0 = sym z ∙ e in omega arith));
+            stuck = inr z;
           }
 
   -- ---- the whole string
@@ -79,6 +82,16 @@ module _ (L : Layout) (LL : Lawful L) where
     pub rest-bytes : Bytes rest
     pub is : s ≡ startRecord L count start ++ (stepRecords L start events ++ rest)
 
+  -- its Steps, the place of the record due behind them, and the block before that record
+  abbrev pub stepsOf : {s : List ℕ} → Beginning s → ℕ
+  stepsOf p = length (p .events)
+
+  abbrev pub dueAt : {s : List ℕ} → Beginning s → ℕ
+  dueAt p = placeOf L (stepsOf p)
+
+  abbrev pub blockOf : {s : List ℕ} → Beginning s → List ℕ
+  blockOf p = run L (p .start) (p .events)
+
   pub data Outcome (s : List ℕ) : Type 0 where
     at-start : (startNumber L s ≡ 0 → ⊥) → Outcome s
     at-step : (p : Beginning s) → length (p .events) < p .count
@@ -86,7 +99,7 @@ module _ (L : Layout) (LL : Lawful L) where
     at-end : (p : Beginning s) → length (p .events) ≡ p .count → Outcome s
 
   pub outcome : (s : List ℕ) → Bytes s → Outcome s
-  outcome s by = go (startNumber L s) refl
+  outcome s by = ⊎-elim (λ z. ended (start-is L LL s by z)) at-start (zero-or-not (startNumber L s))
     where
       begun : (p : Started L LL s) → Came (p .count) (p .block) (p .rest) → Beginning s
       begun p q =
@@ -104,26 +117,24 @@ module _ (L : Layout) (LL : Lawful L) where
             is = p .is ∙ ap (λ (t : List ℕ). startRecord L (p .count) (p .block) ++ t) (q .is);
           }
 
-      decide : (p : Started L LL s) (q : Came (p .count) (p .block) (p .rest)) (left : ℕ) → q .left ≡ left
-          → (q .left ≡ 0) ⊎ (stepNumber L (run L (p .block) (q .events)) (q .rest) ≡ 0 → ⊥) → Outcome s
-      decide p q zero e w = at-end (begun p q) (let c = q .count in omega arith)
-      decide p q (suc left) e (inl z) = absurd (omega arith)
-      decide p q (suc left) e (inr z) = at-step (begun p q) (let c = q .count in omega arith) z
+      decide : (p : Started L LL s) (q : Came (p .count) (p .block) (p .rest)) → (q .left ≡ 0) ⊎ (q .left ≡ 0 → ⊥)
+          → (q .left ≡ 0) ⊎ (stepNumber L (run L (p .block) (q .events)) (q .rest) ≡ 0 → ⊥)
+          → Outcome s
+      decide p q (inl e) w = at-end (begun p q) (let c = q .count in omega arith)
+      decide p q (inr n) (inl z) = absurd (n z)
+      decide p q (inr n) (inr z) = at-step (begun p q) (let c = q .count in omega (arith, n)) z
 
       ended : (p : Started L LL s) → Outcome s
-      ended p = let q = come (p .count) (p .block) (p .rest) (p .rest-bytes) in decide p q (q .left) refl (q .stuck)
-
-      go : (n : ℕ) → startNumber L s ≡ n → Outcome s
-      go zero z = ended (start-is L LL s by z)
-      go (suc n) z = at-start (λ e. absurd (let w : suc n ≡ 0 = sym z ∙ e in omega arith))
+      ended p =
+          let q = come (p .count) (p .block) (p .rest) (p .rest-bytes) in decide p q (zero-or-not (q .left)) (q .stuck)
 
   -- ---- what the report is then
 
   module _ (s : List ℕ) (p : Beginning s) where
     -- the Start counts as many Steps as it says
-    pub counted : spelt s 4 ≡ p .count
+    pub counted : spelt s countAt ≡ p .count
     counted =
-        ap (λ (l : List ℕ). spelt l 4) (p .is)
+        ap (λ (l : List ℕ). spelt l countAt) (p .is)
         ∙ start-count L LL (p .count) (p .start) (stepRecords L (p .start) (p .events) ++ p .rest) (p .size)
         (omega (arith, p .few))
 

@@ -2,8 +2,9 @@
 -- its own fault; four bytes decide the second and the whole record the third, whatever stands behind them.
 use mathlib.Core.Path.{_≡_, refl, sym, _∙_}
 use mathlib.Core.Bool.{Bool, true, false}
+use mathlib.Core.Logic.{_⊎_, inl, inr}
 use mathlib.Core.List.{List, _++_}
-use Prim.Native.Nat.{ℕ, zero, suc, _<_, _≤_}
+use Prim.Native.Nat.{ℕ, _<_, _≤_}
 use native.Mathlib.Omega.{arith}
 use lib.ListN.{length, take, length-append}
 use lib.Seq.{take-append-le}
@@ -12,19 +13,21 @@ use borrow.Author.Tests.{le-leb, leb-true, leb-false}
 use Rattle.words.specs.Word.{half, spelt}
 use Rattle.words.proofs.Spell.{half-front, spelt-front}
 use Rattle.trace.specs.Layout.{Layout, startSize, stepSize, endSize, endKind, mostSteps}
+use Rattle.trace.specs.Layout.{headSize, lengthAt, kindAt, countAt, codeAt, aAt, bAt, numberAt}
 use Rattle.trace.specs.Published.{stepRecord}
-use Rattle.trace.specs.Report.{unless, _else_, sameBytes, headNumber, startNumber, stepNumber, endNumber, eventOf, SHORT, BAD-RECORD, BAD-COUNT, WRONG-STEP}
-use Rattle.trace.proofs.Faults.{else-first, else-second, head-whole}
+use Rattle.trace.specs.Report.{unless, _else_, sameBytes, headNumber, startNumber, stepNumber, endNumber, eventOf, SHORT}
+use Rattle.trace.specs.Report.{BAD-RECORD, BAD-COUNT, WRONG-STEP}
+use Rattle.trace.proofs.Faults.{zero-or-not, else-first, else-second, head-whole}
 
 -- ---- what is wrong with a record of this length and kind, whose own fault is f
 
 pub data Fault (len kind f : ℕ) (r : List ℕ) : ℕ → Type 0 where
   cut : length r < len → Fault len kind f r SHORT
-  bad : 4 ≤ length r → headNumber len kind r ≡ BAD-RECORD → Fault len kind f r BAD-RECORD
+  bad : headSize ≤ length r → headNumber len kind r ≡ BAD-RECORD → Fault len kind f r BAD-RECORD
   own : len ≤ length r → Fault len kind f r f
 
-module _ (len kind f : ℕ) (r : List ℕ) (long : 4 ≤ len) where
-  head-fault : (a b c d : Bool) → leb 4 (length r) ≡ a → leb len (length r) ≡ d → (n : ℕ)
+module _ (len kind f : ℕ) (r : List ℕ) (long : headSize ≤ len) where
+  head-fault : (a b c d : Bool) → leb headSize (length r) ≡ a → leb len (length r) ≡ d → (n : ℕ)
       → n ≡ (unless a SHORT else unless b BAD-RECORD else unless c BAD-RECORD else unless d SHORT) → (n ≡ 0 → ⊥)
       → headNumber len kind r ≡ n → Fault len kind f r n
   head-fault false b c d p q n e z h = rw e (cut (omega (arith, leb-false 4 (length r) p)))
@@ -36,17 +39,16 @@ module _ (len kind f : ℕ) (r : List ℕ) (long : 4 ≤ len) where
   -- the number of a record that is judged by its head and then by a test of its own
   pub fault-of : (t : Bool) (n : ℕ) → n ≡ (headNumber len kind r else unless t f) → (n ≡ 0 → ⊥) → Fault len kind f r n
   unfolding headNumber
-  fault-of t n e z = go (headNumber len kind r) refl t e
+  fault-of t n e z = go (zero-or-not (headNumber len kind r)) t e
     where
-      go : (h : ℕ) → headNumber len kind r ≡ h → (t : Bool) → n ≡ (headNumber len kind r else unless t f)
+      go : (headNumber len kind r ≡ 0) ⊎ (headNumber len kind r ≡ 0 → ⊥) → (t : Bool)
+          → n ≡ (headNumber len kind r else unless t f)
           → Fault len kind f r n
-      go zero p true e = absurd (z (e ∙ else-second (headNumber len kind r) 0 p))
-      go zero p false e = rw (e ∙ else-second (headNumber len kind r) f p) (own (head-whole len kind r p .3))
-      go (suc h) p t e =
-          let q : n ≡ headNumber len kind r = e
-          ∙ else-first (headNumber len kind r) (unless t f)
-          (λ w. absurd (let v : suc h ≡ 0 = sym p ∙ w in omega arith)) in
-          head-fault (leb 4 (length r)) (eqb (half r 0) len) (eqb (half r 2) kind) (leb len (length r)) refl refl n q
+      go (inl p) true e = absurd (z (e ∙ else-second (headNumber len kind r) 0 p))
+      go (inl p) false e = rw (e ∙ else-second (headNumber len kind r) f p) (own (head-whole len kind r p .3))
+      go (inr p) t e =
+          let q : n ≡ headNumber len kind r = e ∙ else-first (headNumber len kind r) (unless t f) p in
+          head-fault (leb headSize (length r)) (eqb (half r lengthAt) len) (eqb (half r kindAt) kind) (leb len (length r)) refl refl n q
           z (sym q)
 
 -- Start, Step and End are such records
@@ -55,7 +57,7 @@ module _ (L : Layout) where
       → Fault (startSize L) (L .startKind) BAD-COUNT r n
   unfolding startNumber
   start-fault r n e z =
-      fault-of (startSize L) (L .startKind) BAD-COUNT r (omega arith) (leb (spelt r 4) mostSteps) n e z
+      fault-of (startSize L) (L .startKind) BAD-COUNT r (omega arith) (leb (spelt r countAt) mostSteps) n e z
 
   pub step-fault : (b r : List ℕ) (n : ℕ) → n ≡ stepNumber L b r → (n ≡ 0 → ⊥)
       → Fault (stepSize L) (L .stepKind) WRONG-STEP r n
@@ -66,7 +68,7 @@ module _ (L : Layout) where
 
 pub end-fault : (k : ℕ) (r : List ℕ) (n : ℕ) → n ≡ endNumber k r → (n ≡ 0 → ⊥) → Fault endSize endKind BAD-COUNT r n
 unfolding endNumber
-end-fault k r n e z = fault-of endSize endKind BAD-COUNT r (omega arith) (eqb (spelt r 4) k) n e z
+end-fault k r n e z = fault-of endSize endKind BAD-COUNT r (omega arith) (eqb (spelt r countAt) k) n e z
 
 -- ---- the bytes behind do not matter
 
@@ -75,30 +77,30 @@ module _ (r t : List ℕ) where
   more = omega (arith, length-append r t)
 
   module _ (len kind : ℕ) where
-    pub head-own : 4 ≤ len → len ≤ length r → headNumber len kind (r ++ t) ≡ headNumber len kind r
+    pub head-own : headSize ≤ len → len ≤ length r → headNumber len kind (r ++ t) ≡ headNumber len kind r
     unfolding headNumber
     head-own h k =
-        let a : leb 4 (length (r ++ t)) ≡ leb 4 (length r) =
-        le-leb 4 (length (r ++ t)) (omega (arith, more)) ∙ sym (le-leb 4 (length r) (omega arith)) in
+        let a : leb headSize (length (r ++ t)) ≡ leb headSize (length r) =
+        le-leb headSize (length (r ++ t)) (omega (arith, more)) ∙ sym (le-leb headSize (length r) (omega arith)) in
         let d : leb len (length (r ++ t)) ≡ leb len (length r) =
         le-leb len (length (r ++ t)) (omega (arith, more)) ∙ sym (le-leb len (length r) k) in
-        let b = half-front r t 0 (omega arith) in
-        let c = half-front r t 2 (omega arith) in
+        let b = half-front r t lengthAt (omega arith) in
+        let c = half-front r t kindAt (omega arith) in
         λ j. unless (a j) SHORT else unless (eqb (b j) len) BAD-RECORD else unless (eqb (c j) kind) BAD-RECORD else
         unless (d j) SHORT
 
   -- four bytes are enough for 9
-  pub bad-own : (len kind : ℕ) (u : List ℕ) → 4 ≤ length r → headNumber len kind (r ++ u) ≡ BAD-RECORD
+  pub bad-own : (len kind : ℕ) (u : List ℕ) → headSize ≤ length r → headNumber len kind (r ++ u) ≡ BAD-RECORD
       → headNumber len kind (r ++ t) ≡ BAD-RECORD
   unfolding headNumber
   bad-own len kind u h e =
-      let a = le-leb 4 (length (r ++ t)) (omega (arith, more)) in
-      let b = half-front r t 0 (omega arith) ∙ sym (half-front r u 0 (omega arith)) in
-      let c = half-front r t 2 (omega arith) ∙ sym (half-front r u 2 (omega arith)) in
+      let a = le-leb headSize (length (r ++ t)) (omega (arith, more)) in
+      let b = half-front r t lengthAt (omega arith) ∙ sym (half-front r u lengthAt (omega arith)) in
+      let c = half-front r t kindAt (omega arith) ∙ sym (half-front r u kindAt (omega arith)) in
       let d = leb len (length (r ++ t)) in
       (λ j. unless (a j) SHORT else unless (eqb (b j) len) BAD-RECORD else unless (eqb (c j) kind) BAD-RECORD else
       unless d SHORT)
-      ∙ go (leb 4 (length (r ++ u))) (eqb (half (r ++ u) 0) len) (eqb (half (r ++ u) 2) kind)
+      ∙ go (leb headSize (length (r ++ u))) (eqb (half (r ++ u) lengthAt) len) (eqb (half (r ++ u) kindAt) kind)
       (leb len (length (r ++ u))) d e
     where
       go : (a b c d e : Bool)
@@ -114,14 +116,14 @@ module _ (r t : List ℕ) where
   unfolding startNumber
   start-own L h =
       let head = head-own (startSize L) (L .startKind) (omega arith) h in
-      let count = spelt-front r t 4 (omega arith) in
+      let count = spelt-front r t countAt (omega arith) in
       λ j. head j else unless (leb (count j) mostSteps) BAD-COUNT
 
-  pub event-own : 16 ≤ length r → eventOf (r ++ t) ≡ eventOf r
+  pub event-own : numberAt ≤ length r → eventOf (r ++ t) ≡ eventOf r
   event-own h =
-      let code = spelt-front r t 4 (omega arith) in
-      let a = spelt-front r t 8 (omega arith) in
-      let b = spelt-front r t 12 (omega arith) in
+      let code = spelt-front r t codeAt (omega arith) in
+      let a = spelt-front r t aAt (omega arith) in
+      let b = spelt-front r t bAt (omega arith) in
       λ j. record { code = code j; a = a j; b = b j }
 
   pub step-own : (L : Layout) (b : List ℕ) → stepSize L ≤ length r → stepNumber L b (r ++ t) ≡ stepNumber L b r
@@ -136,5 +138,5 @@ module _ (r t : List ℕ) where
   unfolding endNumber
   end-own k h =
       let head = head-own endSize endKind (omega arith) h in
-      let count = spelt-front r t 4 h in
+      let count = spelt-front r t countAt h in
       λ j. head j else unless (eqb (count j) k) BAD-COUNT

@@ -12,28 +12,31 @@ use Rattle.words.proofs.Laws.{spells, spelt-fits}
 use Rattle.words.proofs.Spell.{spells-half, spelt-split, half-split}
 use Rattle.rules.specs.declared.event.Event.{Event}
 use Rattle.rules.specs.declared.verdict.Answer.{Answer}
+use Rattle.rules.specs.Run.{runBy}
 use Rattle.trace.specs.Layout.{Layout, Lawful, startSize, stepSize, endSize, endKind, placeOf}
-use Rattle.trace.specs.Published.{IsEvent, IsAnswer, head, startRecord, endRecord, stepShowing, stepRecord, stepRecords, run, published}
+use Rattle.trace.specs.Layout.{headSize, lengthAt, kindAt, countAt, startBlockAt, codeAt, aAt, bAt, numberAt, valueAt, blockAfterAt}
+use Rattle.trace.specs.Published.{IsEvent, IsAnswer, head, startRecord, endRecord, stepShowing, stepRecord, stepRecords}
+use Rattle.trace.specs.Published.{run, published}
 use Rattle.trace.specs.Report.{headNumber, eventOf}
 use Rattle.trace.proofs.Faults.{head-right}
 
 -- a list of bytes whose head is right is that head, and the rest
-pub head-is : (r : List ℕ) (len kind : ℕ) → Bytes r → 4 ≤ length r → half r 0 ≡ len → half r 2 ≡ kind
-    → r ≡ head len kind ++ drop 4 r
+pub head-is : (r : List ℕ) (len kind : ℕ) → Bytes r → headSize ≤ length r → half r lengthAt ≡ len → half r kindAt ≡ kind
+    → r ≡ head len kind ++ drop headSize r
 head-is r len kind by l p q =
-    half-split r 0 by (omega arith)
-    ∙ ap (λ (t : List ℕ). le16 (half r 0) ++ t) (half-split r 2 by (omega arith))
-    ∙ (λ i. le16 (p i) ++ (le16 (q i) ++ drop 4 r))
+    half-split r lengthAt by (omega arith)
+    ∙ ap (λ (t : List ℕ). le16 (half r lengthAt) ++ t) (half-split r kindAt by (omega arith))
+    ∙ (λ i. le16 (p i) ++ (le16 (q i) ++ drop headSize r))
 
 -- the event and the answer that a Step names and shows are words
 pub event-fits : (r : List ℕ) → Bytes r → IsEvent (eventOf r)
-event-fits r by = record { code = spelt-fits r 4 by; a = spelt-fits r 8 by; b = spelt-fits r 12 by }
+event-fits r by = record { code = spelt-fits r codeAt by; a = spelt-fits r aAt by; b = spelt-fits r bAt by }
 
 abbrev pub answerOf : List ℕ → Answer
-answerOf r = record { number = spelt r 16; value = spelt r 20 }
+answerOf r = record { number = spelt r numberAt; value = spelt r valueAt }
 
 pub answer-fits : (r : List ℕ) → Bytes r → IsAnswer (answerOf r)
-answer-fits r by = record { number = spelt-fits r 16 by; value = spelt-fits r 20 by }
+answer-fits r by = record { number = spelt-fits r numberAt by; value = spelt-fits r valueAt by }
 
 -- ---- End
 
@@ -46,7 +49,7 @@ module _ (n : ℕ) (t : List ℕ) where
   unfolding endRecord half
   end-head = head-right endSize endKind (endRecord n ++ t) (omega arith) refl refl (omega arith)
 
-  pub end-count : n < 2 ^ 32 → spelt (endRecord n ++ t) 4 ≡ n
+  pub end-count : n < 2 ^ 32 → spelt (endRecord n ++ t) countAt ≡ n
   unfolding endRecord spelt
   end-count h = spells n h
 
@@ -68,11 +71,11 @@ module _ (L : Layout) (LL : Lawful L) where
         (spells-half (startSize L) (omega (arith, LL .step-fits))) (spells-half (L .startKind) (LL .start-kind-fits))
         start-long
 
-    pub start-count : n < 2 ^ 32 → spelt (startRecord L n b ++ t) 4 ≡ n
+    pub start-count : n < 2 ^ 32 → spelt (startRecord L n b ++ t) countAt ≡ n
     unfolding startRecord spelt
     start-count l = spells n l
 
-    pub start-block : take (L .size) (drop 8 (startRecord L n b ++ t)) ≡ b
+    pub start-block : take (L .size) (drop startBlockAt (startRecord L n b ++ t)) ≡ b
     unfolding startRecord
     start-block = take-at b t (L .size) h
 
@@ -116,62 +119,62 @@ module _ (L : Layout) (LL : Lawful L) where
       → stepShowing L e x c ≡ stepShowing L f y d → x ≡ y
   unfolding stepShowing spelt
   shown-answer e f x y c d ok fits q =
-      let n = sym (spells (x .number) (ok .number)) ∙ ap (λ (l : List ℕ). spelt l 16) q
+      let n = sym (spells (x .number) (ok .number)) ∙ ap (λ (l : List ℕ). spelt l numberAt) q
       ∙ spells (y .number) (fits .number) in
-      let v = sym (spells (x .value) (ok .value)) ∙ ap (λ (l : List ℕ). spelt l 20) q
+      let v = sym (spells (x .value) (ok .value)) ∙ ap (λ (l : List ℕ). spelt l valueAt) q
       ∙ spells (y .value) (fits .value) in
       λ i. record { number = n i; value = v i }
 
   pub shown-block : (e f : Event) (x y : Answer) (c d : List ℕ) → stepShowing L e x c ≡ stepShowing L f y d → c ≡ d
   unfolding stepShowing
-  shown-block e f x y c d q = ap (drop 24) q
+  shown-block e f x y c d q = ap (drop blockAfterAt) q
 
   -- a whole record under the head of a Step shows what stands at the places of a Step
   pub step-shows : (r : List ℕ) → Bytes r → headNumber (stepSize L) (L .stepKind) r ≡ 0
-      → (4 ≤ length r) × (half r 0 ≡ stepSize L) × (half r 2 ≡ L .stepKind) × (stepSize L ≤ length r)
-      → take (stepSize L) r ≡ stepShowing L (eventOf r) (answerOf r) (take (L .size) (drop 24 r))
+      → (headSize ≤ length r) × (half r lengthAt ≡ stepSize L) × (half r kindAt ≡ L .stepKind) × (stepSize L ≤ length r)
+      → take (stepSize L) r ≡ stepShowing L (eventOf r) (answerOf r) (take (L .size) (drop blockAfterAt r))
   unfolding stepShowing
   step-shows r by z h =
       let e : Event = eventOf r in
       let x : Answer = answerOf r in
-      let c : List ℕ = take (L .size) (drop 24 r) in
-      let l : length c ≡ L .size = omega (arith, length-take (L .size) (drop 24 r), length-drop 24 r) in
-      let block : drop 24 r ≡ c ++ drop (stepSize L) r = sym (take-append-drop (L .size) (drop 24 r))
-      ∙ ap (λ (t : List ℕ). c ++ t) (drop-drop (L .size) 24 r) in
+      let c : List ℕ = take (L .size) (drop blockAfterAt r) in
+      let l : length c ≡ L .size = omega (arith, length-take (L .size) (drop blockAfterAt r), length-drop blockAfterAt r) in
+      let block : drop blockAfterAt r ≡ c ++ drop (stepSize L) r = sym (take-append-drop (L .size) (drop blockAfterAt r))
+      ∙ ap (λ (t : List ℕ). c ++ t) (drop-drop (L .size) blockAfterAt r) in
       let is : r ≡ stepShowing L e x c ++ drop (stepSize L) r =
       head-is r (stepSize L) (L .stepKind) by (h .0) (h .1) (h .2)
       ∙ ap (λ (t : List ℕ). head (stepSize L) (L .stepKind) ++ t)
-      (spelt-split r 4 by (omega arith)
-      ∙ ap (λ (t : List ℕ). le32 (spelt r 4) ++ t)
-      (spelt-split r 8 by (omega arith)
-      ∙ ap (λ (t : List ℕ). le32 (spelt r 8) ++ t)
-      (spelt-split r 12 by (omega arith)
-      ∙ ap (λ (t : List ℕ). le32 (spelt r 12) ++ t)
-      (spelt-split r 16 by (omega arith)
-      ∙ ap (λ (t : List ℕ). le32 (spelt r 16) ++ t)
-      (spelt-split r 20 by (omega arith) ∙ ap (λ (t : List ℕ). le32 (spelt r 20) ++ t) block))))) in
+      (spelt-split r codeAt by (omega arith)
+      ∙ ap (λ (t : List ℕ). le32 (spelt r codeAt) ++ t)
+      (spelt-split r aAt by (omega arith)
+      ∙ ap (λ (t : List ℕ). le32 (spelt r aAt) ++ t)
+      (spelt-split r bAt by (omega arith)
+      ∙ ap (λ (t : List ℕ). le32 (spelt r bAt) ++ t)
+      (spelt-split r numberAt by (omega arith)
+      ∙ ap (λ (t : List ℕ). le32 (spelt r numberAt) ++ t)
+      (spelt-split r valueAt by (omega arith) ∙ ap (λ (t : List ℕ). le32 (spelt r valueAt) ++ t) block))))) in
       ap (take (stepSize L)) is ∙ take-at (stepShowing L e x c) (drop (stepSize L) r) (stepSize L)
       (length-step e x c l)
 
   -- ---- lengths of a run of Steps and of a whole trace
 
-  pub length-run : (es : List Event) (b : List ℕ) → length (run L b es) ≡ length b
-  unfolding run
-  length-run [] b = refl
-  length-run (e ∷ es) b = length-run es (L .after b e) ∙ LL .length-after b e
+  pub length-run : (es : List Event) (b : List ℕ) → length b ≡ L .size → length (run L b es) ≡ L .size
+  unfolding runBy
+  length-run [] b h = h
+  length-run (e ∷ es) b h = length-run es (L .after b e) (LL .length-after b e h)
 
-  pub bytes-run : (es : List Event) (b : List ℕ) → Bytes b → Bytes (run L b es)
-  unfolding run
-  bytes-run [] b h = h
-  bytes-run (e ∷ es) b h = bytes-run es (L .after b e) (LL .bytes-after b e h)
+  pub bytes-run : (es : List Event) (b : List ℕ) → length b ≡ L .size → Bytes b → Bytes (run L b es)
+  unfolding runBy
+  bytes-run [] b h by = by
+  bytes-run (e ∷ es) b h by = bytes-run es (L .after b e) (LL .length-after b e h) (LL .bytes-after b e h by)
 
   pub length-steps : (es : List Event) (b : List ℕ) → length b ≡ L .size
       → length (stepRecords L b es) ≡ stepSize L * length es
   unfolding stepRecords
   length-steps [] b h = sym (mul-zero (stepSize L))
   length-steps (e ∷ es) b h =
-      let ih = length-steps es (L .after b e) (LL .length-after b e ∙ h) in
-      let l = length-step e (L .answer b e) (L .after b e) (LL .length-after b e ∙ h) in
+      let ih = length-steps es (L .after b e) (LL .length-after b e h) in
+      let l = length-step e (L .answer b e) (L .after b e) (LL .length-after b e h) in
       omega (
         arith,
         mul-suc (stepSize L) (length es),
@@ -198,17 +201,13 @@ module _ (L : Layout) (LL : Lawful L) where
   -- Steps one after another
   pub steps-append : (es fs : List Event) (b : List ℕ)
       → stepRecords L b (es ++ fs) ≡ stepRecords L b es ++ stepRecords L (run L b es) fs
-  unfolding stepRecords run
+  unfolding stepRecords runBy
   steps-append [] fs b = refl
-  steps-append (e ∷ es) fs b =
-      ap (λ (t : List ℕ). stepRecord L b e ++ t) (steps-append es fs (L .after b e))
-      ∙ sym (append-assoc (stepRecord L b e) (stepRecords L (L .after b e) es)
-      (stepRecords L (run L (L .after b e) es) fs))
+  steps-append (e ∷ es) fs b = simp (steps-append es fs (L .after b e), append-assoc)
 
   pub length-published : (b : List ℕ) (es : List Event) → length b ≡ L .size
       → length (published L b es) ≡ placeOf L (length es) + endSize
   unfolding published
   length-published b es h =
-      ap length (sym (append-assoc (startRecord L (length es) b) (stepRecords L b es) (endRecord (length es))))
-      ∙ length-append (startRecord L (length es) b ++ stepRecords L b es) (endRecord (length es))
-      ∙ (λ i. length-begun (length es) b es h i + length-end (length es) i)
+      let begun = simp length-append at (length-begun (length es) b es h) in
+      simp length-append (omega (arith, length-end (length es)))

@@ -1,7 +1,7 @@
 -- Words for what the theorems say of a report: what stands before its place, how far the string was judged, what a cut and
 -- a changed trace are, what it is to be a checker, and the wrong checkers that the paper names.
 use mathlib.Core.Path.{_≡_}
-use mathlib.Core.Logic.{_↔_}
+use mathlib.Core.Logic.{_⊎_, _↔_}
 use mathlib.Core.List.{List, [], _∷_, _++_}
 use Prim.Native.Nat.{ℕ, zero, suc, _+_, _<_, _≤_}
 use lib.ListN.{length, take, drop, getD}
@@ -10,15 +10,19 @@ use Rattle.words.specs.Word.{spelt, Bytes}
 use Rattle.state.specs.Choice.{if_then_else_}
 use Rattle.rules.specs.declared.event.Event.{Event}
 use Rattle.rules.specs.declared.verdict.Answer.{Answer}
-use Rattle.trace.specs.declared.Report.{Report}
+use Rattle.trace.specs.declared.check.Report.{Report}
 use Rattle.trace.specs.Layout.{Layout, headSize, startSize, stepSize, endSize, mostSteps, placeOf, countAt, startBlockAt}
 use Rattle.trace.specs.Published.{AreEvents, startRecord, endRecord, stepShowing, stepRecords, run, Published}
-use Rattle.trace.specs.Report.{eventOf, report, ACCEPTED, BAD-RECORD}
+use Rattle.trace.specs.Report.{eventOf, report, ACCEPTED, SHORT, BAD-RECORD, BAD-COUNT, WRONG-STEP, TRAILING}
 
 -- t is s, but for bytes at these places
 pub record ChangedAt (places : ℕ → Type 0) (s t : List ℕ) : Type 0 where
   pub size : length s ≡ length t
   pub same : (i : ℕ) → (places i → ⊥) → getD s i 0 ≡ getD t i 0
+
+-- refused with 9, 10 or 11
+abbrev pub Misjudged : Report → Type 0
+Misjudged v = (v .number ≡ BAD-RECORD) ⊎ (v .number ≡ BAD-COUNT) ⊎ (v .number ≡ WRONG-STEP)
 
 module _ (L : Layout) where
   -- s is a published trace, the place is its length, and Steps is how many events it has
@@ -55,6 +59,27 @@ module _ (L : Layout) where
   -- where what was judged ends: for 9 the head, else the whole record
   abbrev pub judgedTo : List ℕ → Report → ℕ
   judgedTo s v = v .place + (if eqb (v .number) BAD-RECORD then headSize else dueSize s v)
+
+  -- what the report v says of s
+  pub record Says (s : List ℕ) (v : Report) : Type 0 where
+    -- accepted: s is a published trace, the place is its length and Steps is n
+    pub accepted-whole : v .number ≡ ACCEPTED → Accepted s v
+    -- refused at place 0: Steps is 0
+    pub at-zero : v .place ≡ 0 → v .steps ≡ 0
+    -- refused with 8, 9, 10 or 11 at a later place: up to it stand a right Start and exactly Steps right Steps
+    pub begun-before : (v .number ≡ ACCEPTED → ⊥) → (v .number ≡ TRAILING → ⊥) → (v .place ≡ 0 → ⊥)
+        → Begun s (v .place) (v .steps)
+    -- refused with 12: up to the place stands a whole published trace of Steps Steps
+    pub trailing-whole : v .number ≡ TRAILING → Trailed s (v .place) (v .steps)
+    -- refused with 8: the record due is not whole
+    pub short-not-whole : v .number ≡ SHORT → length s < v .place + dueSize s v
+    -- refused with 9, 10 or 11: what was judged, the head for 9 and the whole record else, is there
+    pub judged-within : Misjudged v → judgedTo s v ≤ length s
+    -- and no published trace begins with the bytes up to its end
+    pub no-trace-begins : Misjudged v → (t : List ℕ) → Published L (take (judgedTo s v) s ++ t) → ⊥
+    -- the place lies within the string, and is at most the length of the longest trace
+    pub place-within : v .place ≤ length s
+    pub place-fits : v .place ≤ placeOf L mostSteps + endSize
 
   -- a cut of a trace of n Steps after l bytes falls in the record at this place, or that record is missing, and k whole
   -- Steps lie before it

@@ -95,8 +95,9 @@ pub record Lawful (L : Layout) : Type 0 where
   pub step-fits : stepSize L < 2 ^ 16
   pub start-kind-fits : L .startKind < 2 ^ 16
   pub step-kind-fits : L .stepKind < 2 ^ 16
-  -- a Step leaves a block of the same size, and its answer is two words
-  pub length-after : (b : List ℕ) (e : Event) → length (L .after b e) ≡ length b
-  pub bytes-after : (b : List ℕ) (e : Event) → Bytes b → Bytes (L .after b e)
-  pub number-fits : (b : List ℕ) (e : Event) → L .answer b e .number < 2 ^ 32
-  pub value-fits : (b : List ℕ) (e : Event) → Bytes b → L .answer b e .value < 2 ^ 32
+  -- from a block of the layout's size a Step leaves one of that size, and its answer is two words; nothing is asked of
+  -- the rules on other blocks
+  pub length-after : (b : List ℕ) (e : Event) → length b ≡ L .size → length (L .after b e) ≡ L .size
+  pub bytes-after : (b : List ℕ) (e : Event) → length b ≡ L .size → Bytes b → Bytes (L .after b e)
+  pub number-fits : (b : List ℕ) (e : Event) → length b ≡ L .size → L .answer b e .number < 2 ^ 32
+  pub value-fits : (b : List ℕ) (e : Event) → length b ≡ L .size → Bytes b → L .answer b e .value < 2 ^ 32

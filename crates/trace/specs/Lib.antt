@@ -3,3 +3,4 @@ pub mod Published
 pub mod Report
 pub mod Judged
 pub mod Claims
+pub mod Theorems

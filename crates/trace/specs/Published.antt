@@ -6,6 +6,8 @@ use lib.ListN.{length}
 use Rattle.words.specs.Word.{le16, le32, Bytes}
 use Rattle.rules.specs.declared.event.Event.{Event}
 use Rattle.rules.specs.declared.verdict.Answer.{Answer}
+use Rattle.rules.specs.Run.{runBy}
+use Rattle.rules.specs.Step.{answerBytes}
 use Rattle.trace.specs.Layout.{Layout, startSize, stepSize, endSize, endKind, mostSteps}
 
 -- an event is three words (document 01, "Events")
@@ -32,9 +34,6 @@ head len kind = le16 len ++ le16 kind
 abbrev pub eventBytes : Event → List ℕ
 eventBytes e = le32 (e .code) ++ (le32 (e .a) ++ le32 (e .b))
 
-abbrev pub answerBytes : Answer → List ℕ
-answerBytes x = le32 (x .number) ++ le32 (x .value)
-
 -- End: n
 unfoldable pub endRecord : ℕ → List ℕ
 endRecord n = head endSize endKind ++ le32 n
@@ -58,9 +57,8 @@ module _ (L : Layout) where
   stepRecords b (e ∷ es) = stepRecord b e ++ stepRecords (L .after b e) es
 
   -- the block after these events
-  unfoldable pub run : List ℕ → List Event → List ℕ
-  run b [] = b
-  run b (e ∷ es) = run (L .after b e) es
+  abbrev pub run : List ℕ → List Event → List ℕ
+  run = runBy (L .after)
 
   unfoldable pub published : List ℕ → List Event → List ℕ
   published b es = startRecord (length es) b ++ (stepRecords b es ++ endRecord (length es))

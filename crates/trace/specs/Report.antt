@@ -9,32 +9,19 @@ use Prim.Native.Nat.{ℕ, zero, suc, _+_}
 use lib.ListN.{length, take, drop}
 use lib.Dec.{eqb, leb}
 use Rattle.words.specs.Word.{half, spelt}
+use Rattle.state.specs.Number.{DONE}
 use Rattle.rules.specs.declared.event.Event.{Event}
-use Rattle.trace.specs.declared.Report.{Report}
-use Rattle.trace.specs.Layout.{Layout, headSize, startSize, stepSize, endSize, endKind, mostSteps, placeOf, lengthAt, kindAt, countAt, startBlockAt, codeAt, aAt, bAt}
+use Rattle.trace.specs.declared.check.Report.{Report}
+use Rattle.trace.specs.Layout.{Layout, headSize, startSize, stepSize, endSize, endKind, mostSteps, placeOf, lengthAt}
+use Rattle.trace.specs.Layout.{kindAt, countAt, startBlockAt, codeAt, aAt, bAt}
 use Rattle.trace.specs.Published.{stepRecord}
-
--- ---- the checker's numbers
-
-abbrev pub ACCEPTED : ℕ
-ACCEPTED = 0
-
-abbrev pub SHORT : ℕ
-SHORT = 8
-
-abbrev pub BAD-RECORD : ℕ
-BAD-RECORD = 9
-
-abbrev pub BAD-COUNT : ℕ
-BAD-COUNT = 10
-
-abbrev pub WRONG-STEP : ℕ
-WRONG-STEP = 11
-
-abbrev pub TRAILING : ℕ
-TRAILING = 12
+pub use Rattle.state.specs.Number.{SHORT, BAD-RECORD, BAD-COUNT, WRONG-STEP, TRAILING}
 
 -- ---- the first fault wins
+
+-- the number of a record, and of a trace, without a fault
+abbrev pub ACCEPTED : ℕ
+ACCEPTED = DONE
 
 -- this fault, unless the test holds
 abbrev pub unless : Bool → ℕ → ℕ

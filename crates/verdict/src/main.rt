@@ -6,7 +6,7 @@ use libc::STDIN_FILENO;
 use libc::STDOUT_FILENO;
 
 fn print_report(trace: &[u8]) {
-    let v = trace::check(trace);
+    let v = trace::check::check(trace);
     io::print_decimal(STDOUT_FILENO, v.number as u64);
     io::write_all(STDOUT_FILENO, b" ");
     io::print_decimal(STDOUT_FILENO, v.place as u64);

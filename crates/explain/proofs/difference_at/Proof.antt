@@ -12,66 +12,48 @@ use Rattle.state.specs.Place.{BLOCK-SIZE}
 use Rattle.trace.proofs.Judging.{copied, rest-is}
 use Rattle.trace.specs.Layout.{layout01}
 
-sub-before : tie.Need-sub-before
-sub-before c = search needs
+-- what was handed over, seen from behind the copy
+abbrev start : tie.After-copy → tie.Start
+start c = c .before .before .before .before
 
-sub-copy : tie.Need-sub-copy
-sub-copy c = search needs
-
-part-copy-start : tie.Need-part-copy-start
-part-copy-start c = search needs
-
-part-copy-end : tie.Need-part-copy-end
-part-copy-end c = search needs
-
-slice-aggregate-copy : tie.Need-slice-aggregate-copy
-slice-aggregate-copy c = search needs
-
-copy-requires : tie.Need-copy-requires
-copy-requires c κs = search needs
-
-sub-step-difference : tie.Need-sub-step-difference
-sub-step-difference c = search needs
-
-part-step-difference-start : tie.Need-part-step-difference-start
-part-step-difference-start c = search needs
-
-part-step-difference-end : tie.Need-part-step-difference-end
-part-step-difference-end c = search needs
-
-slice-aggregate-step-difference : tie.Need-slice-aggregate-step-difference
-slice-aggregate-step-difference c = search needs
-
-step-difference-requires : tie.Need-step-difference-requires
-step-difference-requires c κs = search needs
-
-returns : tie.Need-returns
-returns c =
-    let s = c .before .before .before .before .before .before .before .before .before .args .trace .now in
-    let at = c .before .before .before .before .before .before .before .before .before .args .step in
+block : (c : tie.After-copy)
+    → let x = start c .args in c .copy .last .1 .0 ≡ take BLOCK-SIZE (drop (x .step - BLOCK-SIZE) (x .trace .now))
+block c =
+    let s = start c .args .trace .now in
+    let at = start c .args .step in
     let before = at - BLOCK-SIZE in
     let n : at - before ≡ BLOCK-SIZE = omega arith in
     let b : List ℕ = take (at - before) (drop before s) in
     let size : BLOCK-SIZE ≡ length b =
     omega (arith, length-take (at - before) (drop before s), length-drop before s) in
-    let call = c .before .before .before .before .before .copy in
-    let copy : call .last .1 .0 ≡ take (length b) b ++ drop (length b) (replicate BLOCK-SIZE 0) = call .ensures .1 in
-    let block = copied b _ _ size copy ∙ ap (λ (k : ℕ). take k (drop before s)) n in
-    c .before .step-difference .ensures ∙ (λ i. stepDifference layout01 (block i) (rest-is s at i))
+    let copy : c .copy .last .1 .0 ≡ take (length b) b ++ drop (length b) (replicate BLOCK-SIZE 0) =
+    c .copy .ensures .1 in
+    copied b _ _ size copy ∙ ap (λ (k : ℕ). take k (drop before s)) n
+
+-- the copy, seen from behind the comparison
+abbrev copied-at : tie.After-step-difference → tie.After-copy
+copied-at c = c .before .before .before .before
+
+returns : tie.Need-returns
+returns c =
+    let copy = copied-at (c .before) in
+    let x = start copy .args in
+    c .before .step-difference .ensures
+    ∙ (λ i. stepDifference layout01 (block copy i) (rest-is (x .trace .now) (x .step) i))
 
 pub difference-at-spec : {M : Type 1} → statement M
 difference-at-spec =
     tie.close
     (tie.spec
-    sub-before
-    sub-copy
-    part-copy-start
-    part-copy-end
-    slice-aggregate-copy
-    copy-requires
-    sub-step-difference
-    part-step-difference-start
-    part-step-difference-end
-    slice-aggregate-step-difference
-    step-difference-requires
+    (λ c. search needs)
+    (λ c. search needs)
+    (λ c. search needs)
+    (λ c. search needs)
+    (λ c. search needs)
+    (λ c κs. search needs)
+    (λ c. search needs)
+    (λ c. search needs)
+    (λ c. search needs)
+    (λ c. search needs)
+    (λ c κs. search needs)
     returns)

@@ -1,71 +1,56 @@
 -- The words shown and the words due are read and stepped as the definition names them, and compared.
-use mathlib.Core.Path.{ap, _∙_}
+use mathlib.Core.Path.{_≡_, ap, _∙_}
 use borrow.Author.Needs.{needs}
 use Rattle.explain.proofs.Explaining.{compared}
 use Rattle.explain.proofs.step_difference.Statement.{statement}
 use Rattle.explain.proofs.step_difference.Tie as tie
 use Rattle.rules.specs.Step.{answer, after}
+use Rattle.rules.specs.declared.event.Event.{Event}
 use Rattle.trace.proofs.Judging.{event-read}
 use Rattle.trace.specs.Layout.{layout01}
+use Rattle.trace.specs.Report.{eventOf}
 
-word-at-requires : tie.Need-word-at-requires
-word-at-requires c κs = search needs
+-- what was handed over, seen from where the event is read
+abbrev start : tie.After-word-at3 → tie.Start
+start c = c .before .before .before .before .before .before
 
-word-at-requires-2 : tie.Need-word-at-requires-2
-word-at-requires-2 c κs = search needs
+event : (c : tie.After-word-at3)
+    → _≡_ {A = Event}
+    (record { code = c .before .before .word-at .result; a = c .before .word-at2 .result; b = c .word-at3 .result })
+    (eventOf (start c .args .r .now))
+event c =
+    event-read (start c .args .r .now) _ _ _ (c .before .before .word-at .ensures) (c .before .word-at2 .ensures)
+    (c .word-at3 .ensures)
 
-word-at-requires-3 : tie.Need-word-at-requires-3
-word-at-requires-3 c κs = search needs
-
-step-event-requires : tie.Need-step-event-requires
-step-event-requires c κs = search needs
-
-word-at-requires-4 : tie.Need-word-at-requires-4
-word-at-requires-4 c κs = search needs
-
-word-at-requires-5 : tie.Need-word-at-requires-5
-word-at-requires-5 c κs = search needs
-
-cast-first-difference : tie.Need-cast-first-difference
-cast-first-difference c = search needs
-
-sub-first-difference : tie.Need-sub-first-difference
-sub-first-difference c = search needs
-
-part-first-difference-start : tie.Need-part-first-difference-start
-part-first-difference-start c = search needs
-
-part-first-difference-end : tie.Need-part-first-difference-end
-part-first-difference-end c = search needs
-
-first-difference-requires : tie.Need-first-difference-requires
-first-difference-requires c κs = search needs
-
-same-length : tie.Need-same-length
-same-length c = search needs
+-- the step, seen from behind the words shown
+abbrev stepped : tie.After-word-at5 → tie.After-step-event
+stepped c = c .before .before .before .before
 
 returns : tie.Need-returns
 returns c =
-    let r = c .before .before .before .before .before .before .before .before .before .before .before .before .before .before .args .r .now in
-    let b = c .before .before .before .before .before .before .before .before .before .before .before .before .before .before .args .block .now in
-    let e = event-read r _ _ _ (c .before .before .before .before .before .before .before .before .before .before .word-at .ensures) (c .before .before .before .before .before .before .before .before .before .word-at2 .ensures) (c .before .before .before .before .before .before .before .before .word-at3 .ensures) in
-    compared layout01 b r _ _ _ _ _ (c .first-difference .ensures) (c .before .before .before .before .word-at4 .ensures) (c .before .before .before .word-at5 .ensures)
-    (c .before .before .before .before .before .before .before .step-event .ensures .0 ∙ ap (answer b) e) (c .before .before .before .before .before .before .before .step-event .ensures .1 ∙ ap (after b) e)
+    let shown = c .before .before .before in
+    let step = stepped shown in
+    let args = start (step .before) .args in
+    let e = event (step .before) in
+    compared layout01 (args .block .now) (args .r .now) _ _ _ _ _ (c .first-difference .ensures)
+    (shown .before .word-at4 .ensures) (shown .word-at5 .ensures)
+    (step .step-event .ensures .0 ∙ ap (answer (args .block .now)) e)
+    (step .step-event .ensures .1 ∙ ap (after (args .block .now)) e)
 
 pub step-difference-spec : {M : Type 1} → statement M
 step-difference-spec =
     tie.close
     (tie.spec
-    word-at-requires
-    word-at-requires-2
-    word-at-requires-3
-    step-event-requires
-    word-at-requires-4
-    word-at-requires-5
-    cast-first-difference
-    sub-first-difference
-    part-first-difference-start
-    part-first-difference-end
-    first-difference-requires
-    same-length
+    (λ c κs. search needs)
+    (λ c κs. search needs)
+    (λ c κs. search needs)
+    (λ c κs. search needs)
+    (λ c κs. search needs)
+    (λ c κs. search needs)
+    (λ c. search needs)
+    (λ c. search needs)
+    (λ c. search needs)
+    (λ c. search needs)
+    (λ c κs. search needs)
+    (λ c. search needs)
     returns)

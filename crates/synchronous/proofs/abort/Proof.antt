@@ -103,9 +103,6 @@ returns-3 c =
     abort-to-hyp (here (allowed at)) (read-pc at) (to-secure at (other .if2 .left))
     (first-of-two _ _ (told (hyp .before .is-stage2 .ensures) (hyp .if3 .taken))) (at-stage2 c .send-to-hyp .ensures)
 
-send-to-hyp-requires-2 : tie.Need-send-to-hyp-requires-2
-send-to-hyp-requires-2 c κs = here (allowed (tested (c .before .before .before) .before)) .lent
-
 returns-4 : tie.Need-returns-4
 returns-4 c =
     let hyp = to-hyp c .before .before .before in
@@ -153,7 +150,7 @@ abort-spec =
     returns-3
     (λ c κs. let other = c .before .before .before in rw (here (allowed (other .before)) .lent .0 .0) (lit≤ tt))
     nothing
-    send-to-hyp-requires-2
+    (λ c κs. here (allowed (tested (c .before .before .before) .before)) .lent)
     (λ c. to-hyp c .send-to-hyp2 .kept .0)
     (λ c. to-hyp c .send-to-hyp2 .kept .1 .1 .1 .1 .1 .0)
     returns-4

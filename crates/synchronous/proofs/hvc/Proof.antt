@@ -1,6 +1,6 @@
 -- Not from User or Secure, else taken to Hyp.
 use lib.Dec.{lit<, lit≤}
-use mathlib.Core.Bool.{Bool, true, false, _||_}
+use mathlib.Core.Bool.{Bool, _||_}
 use mathlib.Core.Path.{_≡_, refl}
 use Rattle.entry.proofs.Ways.{hvc-not-here, hvc-taken}
 use Rattle.entry.specs.Code.{HVC}
@@ -9,7 +9,7 @@ use Rattle.state.specs.Choice.{_is_}
 use Rattle.state.specs.Field.{mode-field}
 use Rattle.state.specs.Mode.{USER}
 use Rattle.state.specs.State.{secure}
-use Rattle.synchronous.proofs.Routing.{Asked, in-range, nothing, second-tells, as-read, beyond-range, not-here, taken}
+use Rattle.synchronous.proofs.Routing.{Asked, in-range, nothing, second-tells, as-read, beyond-range, barred, taken}
 use Rattle.synchronous.proofs.hvc.Statement.{statement}
 use Rattle.synchronous.proofs.hvc.Tie as tie
 
@@ -46,7 +46,7 @@ returns-2 : tie.Need-returns-2
 returns-2 c =
     let at = c .before .before in
     let user = at .before .before in
-    not-here (here (user .before .before))
+    barred (here (user .before .before))
     (hvc-not-here _ _ _ _ _ (first-of-two _ _ (told (user .before .is-user .ensures) (user .if2 .taken))))
     (at .refuse2 .ensures)
 
@@ -54,7 +54,7 @@ returns-3 : tie.Need-returns-3
 returns-3 c =
     let at = c .before .before in
     let inside = at .before .before in
-    not-here (here (ranged (inside .before))) (hvc-not-here _ _ _ _ _ (secured (inside .before) (inside .if3 .taken)))
+    barred (here (ranged (inside .before))) (hvc-not-here _ _ _ _ _ (secured (inside .before) (inside .if3 .taken)))
     (at .refuse3 .ensures)
 
 send-to-hyp-requires : tie.Need-send-to-hyp-requires

@@ -1,6 +1,6 @@
 -- Not from Secure or Hyp, else taken to Hyp.
 use lib.Dec.{lit<, lit≤}
-use mathlib.Core.Bool.{Bool, false, _||_}
+use mathlib.Core.Bool.{Bool, _||_}
 use mathlib.Core.Path.{_≡_, refl}
 use Rattle.entry.proofs.Targets.{listed}
 use Rattle.entry.proofs.Ways.{hyp-trap-not-here, hyp-trap-taken}
@@ -10,7 +10,7 @@ use Rattle.state.specs.Choice.{_is_}
 use Rattle.state.specs.Field.{mode-field}
 use Rattle.state.specs.Mode.{HYP}
 use Rattle.state.specs.State.{secure}
-use Rattle.synchronous.proofs.Routing.{Asked, in-range, nothing, second-tells, as-read, beyond-range, not-here, taken}
+use Rattle.synchronous.proofs.Routing.{Asked, in-range, nothing, second-tells, as-read, beyond-range, barred, taken}
 use Rattle.synchronous.proofs.hyp_trap.Statement.{statement}
 use Rattle.synchronous.proofs.hyp_trap.Tie as tie
 
@@ -47,7 +47,7 @@ returns-2 : tie.Need-returns-2
 returns-2 c =
     let at = c .before .before in
     let first = at .before .before in
-    not-here (here (first .before .before))
+    barred (here (first .before .before))
     (hyp-trap-not-here _ _ _ _ _ (first-of-two _ _ (told (first .before .is-secure .ensures) (first .if2 .taken))))
     (at .refuse2 .ensures)
 
@@ -55,7 +55,7 @@ returns-3 : tie.Need-returns-3
 returns-3 c =
     let at = c .before .before in
     let second = at .before .before in
-    not-here (here (ranged (second .before)))
+    barred (here (ranged (second .before)))
     (hyp-trap-not-here _ _ _ _ _ (both-told (second .before) (second .if3 .taken))) (at .refuse3 .ensures)
 
 send-requires : tie.Need-send-requires

@@ -1,13 +1,12 @@
 -- Not from Monitor, else taken to Monitor.
 use lib.Dec.{lit<, lit≤}
-use mathlib.Core.Bool.{Bool, false}
-use mathlib.Core.Path.{_≡_, refl}
+use mathlib.Core.Path.{refl}
 use Rattle.entry.proofs.Targets.{listed}
 use Rattle.entry.proofs.Ways.{monitor-trap-not-here, monitor-trap-taken}
 use Rattle.entry.specs.Code.{MONITOR-TRAP}
 use Rattle.state.proofs.Test.{told}
 use Rattle.state.specs.Mode.{MONITOR}
-use Rattle.synchronous.proofs.Routing.{Asked, in-range, nothing, added, as-read, beyond-range, not-here, taken}
+use Rattle.synchronous.proofs.Routing.{Asked, in-range, nothing, added, as-read, beyond-range, barred, taken}
 use Rattle.synchronous.proofs.monitor_trap.Statement.{statement}
 use Rattle.synchronous.proofs.monitor_trap.Tie as tie
 
@@ -37,12 +36,9 @@ returns-2 : tie.Need-returns-2
 returns-2 c =
     let at = c .before .before in
     let monitor = at .before .before in
-    not-here (here (monitor .before .before))
+    barred (here (monitor .before .before))
     (monitor-trap-not-here _ _ _ _ _ (told (monitor .before .is-monitor .ensures) (monitor .if2 .taken)))
     (at .refuse2 .ensures)
-
-send-requires : tie.Need-send-requires
-send-requires c κs = (here (free (c .before .before) .before .before) .lent, listed MONITOR refl, lit< tt)
 
 returns-3 : tie.Need-returns-3
 returns-3 c =
@@ -68,7 +64,7 @@ monitor-trap-spec =
     (λ c κs. rw (here (c .before .before .before) .lent .0) (lit≤ tt))
     nothing
     nothing
-    send-requires
+    (λ c κs. (here (free (c .before .before) .before .before) .lent, listed MONITOR refl, lit< tt))
     (λ c. sent c .send .kept .0)
     (λ c. sent c .send .kept .1 .1 .1 .1 .1 .1 .0)
     returns-3)

@@ -1,7 +1,6 @@
 -- The operands, and then the abort by its own offset.
 use lib.Dec.{lit<}
-use mathlib.Core.Bool.{Bool, false}
-use mathlib.Core.Path.{_≡_, refl}
+use mathlib.Core.Path.{refl}
 use Rattle.entry.proofs.Ways.{prefetch-abort}
 use Rattle.entry.specs.Code.{PREFETCH-ABORT}
 use Rattle.synchronous.proofs.Routing.{Asked, in-range, nothing, unread, beyond-range, on-its-way}
@@ -27,9 +26,6 @@ returns c =
     let pre = start (beyond .before) .pre in
     beyond-range PREFETCH-ABORT refl _ _ _ (pre .0 .0) (pre .1) (beyond .before .beyond .ensures) (beyond .if1 .taken) (at .refuse .ensures)
 
-abort-requires : tie.Need-abort-requires
-abort-requires c κs = (here (c .before .before) .lent, lit< tt)
-
 returns-2 : tie.Need-returns-2
 returns-2 c =
     let at = aborted c .before .before .before in
@@ -44,7 +40,7 @@ prefetch-abort-spec =
     (λ c κs. start (c .before .before) .pre .0 .1)
     (λ c. c .before .before .refuse .kept .0)
     returns
-    abort-requires
+    (λ c κs. (here (c .before .before) .lent, lit< tt))
     (λ c. aborted c .abort .kept .0)
     (λ c. aborted c .abort .kept .1 .1 .1 .1 .1 .0)
     returns-2)

@@ -1,15 +1,18 @@
 -- Not from User, trapped from NS EL1 with TSC 1, else taken to Monitor.
 use lib.Dec.{lit<, lit≤}
-use mathlib.Core.Bool.{Bool, false}
+use mathlib.Core.Bool.{false}
 use mathlib.Core.Path.{_≡_, refl}
 use Rattle.entry.proofs.Targets.{listed}
 use Rattle.entry.proofs.Ways.{smc-not-here, smc-trapped, smc-taken}
 use Rattle.entry.specs.Code.{SMC}
+use Rattle.interrupts.specs.declared.exception.Exception.the-variants.{Synchronous}
+use Rattle.rules.specs.Parts.{Carried}
+use Rattle.rules.specs.Step.{Take}
 use Rattle.state.proofs.Test.{told}
 use Rattle.state.specs.Choice.{_is_}
 use Rattle.state.specs.Field.{mode-field}
 use Rattle.state.specs.Mode.{USER, MONITOR, HYP}
-use Rattle.synchronous.proofs.Routing.{Asked, Read, as-read, in-range, nothing, beyond-range, not-here, taken}
+use Rattle.synchronous.proofs.Routing.{Asked, Read, as-read, in-range, nothing, beyond-range, barred, taken}
 use Rattle.synchronous.proofs.smc.Statement.{statement}
 use Rattle.synchronous.proofs.smc.Tie as tie
 
@@ -57,17 +60,25 @@ returns-2 : tie.Need-returns-2
 returns-2 c =
     let at = c .before .before in
     let user = at .before .before in
-    not-here (here (user .before .before)) (smc-not-here _ _ _ _ _ (told (user .before .is-user .ensures) (user .if2 .taken)))
+    barred (here (user .before .before)) (smc-not-here _ _ _ _ _ (told (user .before .is-user .ensures) (user .if2 .taken)))
     (at .refuse2 .ensures)
 
 send-requires : tie.Need-send-requires
 send-requires c κs = (here (ranged (free (c .before .before .before))) .lent, listed HYP refl, lit< tt)
 
+-- a trapped SMC enters Hyp at 0x14 and returns to itself
+trapped : (c : tie.After-send)
+    → let at = c .before .before .before in
+    Carried (start (ranged (free (at .before)) .before) .args .block .now)
+    (Take Synchronous HYP 0x14 (at-pc (at .before) .get-word .result)) (c .send .result) (c .send .last .0)
+    (c .send .last .1 .1 .1 .1 .1 .1 .0)
+trapped c = c .send .ensures
+
 returns-3 : tie.Need-returns-3
 returns-3 c =
     let hyp = to-hyp c .before .before .before in
     let at = hyp .before in
-    taken (here (ranged (free at))) (read at) (to-hyp c .send .ensures) refl
+    taken (here (ranged (free at))) (read at) (trapped (to-hyp c)) refl
     (smc-trapped _ _ _ _ _ (read at .fits) (not-user (free at)) (told (at .is-trapped .ensures) (hyp .if3 .taken)))
 
 send-requires-2 : tie.Need-send-requires-2

@@ -1,12 +1,14 @@
 -- To Hyp, or to Supervisor mode, as the test on the way found.
 use lib.Dec.{lit<, lit≤}
-use mathlib.Core.Bool.{Bool, false}
 use mathlib.Core.Path.{_≡_, refl}
 use Rattle.entry.proofs.Targets.{listed}
 use Rattle.entry.proofs.Ways.{svc-to-hyp, svc-to-own}
 use Rattle.entry.specs.Code.{SVC}
 use Rattle.entry.specs.Parts.{narrow}
 use Rattle.entry.specs.Route.{wrap}
+use Rattle.interrupts.specs.declared.exception.Exception.the-variants.{Synchronous}
+use Rattle.rules.specs.Parts.{Carried}
+use Rattle.rules.specs.Step.{Take}
 use Rattle.state.proofs.Test.{told}
 use Rattle.state.specs.Mode.{SUPERVISOR}
 use Rattle.synchronous.proofs.Routing.{Asked, Read, as-read, in-range, nothing, added, beyond-range, taken}
@@ -67,11 +69,19 @@ returns-2 c =
 send-requires : tie.Need-send-requires
 send-requires c κs = (here (ranged (linked (c .before .before .before))) .lent, listed SUPERVISOR refl, lit< tt)
 
+-- an SVC to Supervisor mode returns to the next address
+supervised : (c : tie.After-send)
+    → let own = c .before .before .before in
+    let at = linked (own .before) in
+    Carried (start (ranged at .before) .args .block .now) (Take Synchronous SUPERVISOR 0x08 (at .wrapping-add-u32 .result))
+    (c .send .result) (c .send .last .0) (c .send .last .1 .1 .1 .1 .1 .1 .0)
+supervised c = c .send .ensures
+
 returns-3 : tie.Need-returns-3
 returns-3 c =
     let own = to-own c .before .before .before in
     let at = own .before in
-    taken (here (ranged (linked at))) (read at) (to-own c .send .ensures) (link (linked at))
+    taken (here (ranged (linked at))) (read at) (supervised (to-own c)) (link (linked at))
     (svc-to-own _ _ _ _ _ (read at .fits) (told (at .general-to-hyp .ensures) (own .if2 .left)))
 
 pub svc-spec : {M : Type 1} → statement M

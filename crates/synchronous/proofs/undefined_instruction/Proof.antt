@@ -1,7 +1,6 @@
 -- To Hyp, or to Undefined mode, as the test on the way found.
 use lib.Dec.{lit<, lit≤}
-use mathlib.Core.Bool.{Bool, false}
-use mathlib.Core.Path.{_≡_, refl}
+use mathlib.Core.Path.{refl}
 use Rattle.entry.proofs.Targets.{listed}
 use Rattle.entry.proofs.Ways.{undefined-to-hyp, undefined-to-own}
 use Rattle.entry.specs.Code.{UNDEFINED-INSTRUCTION}
@@ -50,9 +49,6 @@ returns c =
     beyond-range UNDEFINED-INSTRUCTION refl _ _ _ (pre .0 .0) (pre .1) (beyond .before .beyond .ensures) (beyond .if1 .taken)
     (at .refuse .ensures)
 
-send-to-hyp-requires : tie.Need-send-to-hyp-requires
-send-to-hyp-requires c κs = (here (ranged (at-pc (c .before .before .before))) .lent, lit< tt)
-
 returns-2 : tie.Need-returns-2
 returns-2 c =
     let hyp = to-hyp c .before .before .before in
@@ -84,7 +80,7 @@ undefined-instruction-spec =
     (λ c κs. rw (here (c .before) .lent .0) (lit≤ tt))
     (λ c κs. rw (here (ranged (c .before)) .lent .0) (lit≤ tt))
     nothing
-    send-to-hyp-requires
+    (λ c κs. (here (ranged (at-pc (c .before .before .before))) .lent, lit< tt))
     (λ c. to-hyp c .send-to-hyp .kept .0)
     (λ c. to-hyp c .send-to-hyp .kept .1 .1 .1 .1 .1 .0)
     returns-2

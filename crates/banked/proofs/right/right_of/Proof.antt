@@ -18,27 +18,14 @@ by-bit : (p cpsr scr : ℕ) {t : Bool} → denied p (mode-field cpsr) (secure cp
 unfolding right
 by-bit p cpsr scr h = rw h
 
-mul-who : tie.Need-mul-who
-mul-who c = search needs
-
-add-who : tie.Need-add-who
-add-who c = search needs
-
-denied-set-requires : tie.Need-denied-set-requires
-denied-set-requires c κs = search needs
-
-cast-if1 : tie.Need-cast-if1
-cast-if1 c = search needs
-
-shr-if1 : tie.Need-shr-if1
-shr-if1 c = search needs
-
-returns : tie.Need-returns
-returns c = by-bit _ _ _ (sym (who-says _ _ _ (c .before .denied-set .ensures)) ∙ eq-eqb _ _ (c .if1 .taken))
-
-returns-2 : tie.Need-returns-2
-returns-2 c = by-bit _ _ _ (sym (who-says _ _ _ (c .before .denied-set .ensures)) ∙ ne-eqb _ _ (c .if1 .left))
-
 pub right-of-spec : {M : Type 1} → statement M
 right-of-spec =
-    tie.close (tie.spec mul-who add-who denied-set-requires cast-if1 shr-if1 returns returns-2)
+    tie.close
+    (tie.spec
+    (λ c. search needs)
+    (λ c. search needs)
+    (λ c κs. search needs)
+    (λ c. search needs)
+    (λ c. search needs)
+    (λ c. by-bit _ _ _ (sym (who-says _ _ _ (c .before .denied-set .ensures)) ∙ eq-eqb _ _ (c .if1 .taken)))
+    (λ c. by-bit _ _ _ (sym (who-says _ _ _ (c .before .denied-set .ensures)) ∙ ne-eqb _ _ (c .if1 .left))))

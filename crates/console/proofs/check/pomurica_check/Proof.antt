@@ -5,56 +5,54 @@ use Prim.Native.Nat.{ℕ}
 use lib.ListN.{length}
 use borrow.Author.Needs.{needs}
 use borrow.Author.Tests.{eq-eqb, ne-eqb}
-use Rattle.console.proofs.Filled.{filled}
+use Rattle.console.proofs.Filled.{putAll, filled}
 use Rattle.console.proofs.check.pomurica_check.Statement.{statement}
 use Rattle.console.proofs.check.pomurica_check.Tie as tie
 use Rattle.console.specs.Check.{reportSize, reportBytes, checkReturns, checkLeaves}
-use Rattle.trace.specs.declared.Report.{Report}
+use Rattle.trace.specs.declared.check.Report.{Report}
 use Rattle.words.specs.Word.{put}
 
 returns : tie.Need-returns
 unfolding checkReturns checkLeaves
 returns c =
-    let b = c .before .before .before .args .report .now in
-    let other : (length b ≡ reportSize → ⊥) = c .if1 .taken in
+    let other : (length (c .before .before .before .args .report .now) ≡ reportSize → ⊥) = c .if1 .taken in
     (simp (ne-eqb _ _ other), (simp (ne-eqb _ _ other), λ e. absurd (other e)))
 
-check-requires : tie.Need-check-requires
-check-requires c κs = search needs
+-- the buffer as it was, seen from behind the check
+abbrev buffer : tie.After-check → List ℕ
+buffer c = c .before .before .before .before .args .report .now
 
-put-word-requires : tie.Need-put-word-requires
-put-word-requires c κs = search needs
+-- the check, seen from behind the last word
+abbrev checked : tie.After-put-word3 → tie.After-check
+checked c = c .before .before .before .before .before .before .before .before .before .before
 
-put-word-requires-2 : tie.Need-put-word-requires-2
-put-word-requires-2 c κs = search needs
+abbrev wordsOf : Report → List ℕ
+wordsOf v = v .number ∷ v .place ∷ v .steps ∷ []
 
-put-word-requires-3 : tie.Need-put-word-requires-3
-put-word-requires-3 c κs = search needs
-
-same-length : tie.Need-same-length
-same-length c = search needs
+-- the words were put one behind the other, each at its place
+all-put : (c : tie.After-put-word3)
+    → let at = checked c in c .put-word3 .last .0 ≡ putAll (buffer at) 0 (wordsOf (at .check .result))
+all-put c =
+    let second = c .before .before .before .before in
+    let first = second .before .before .before .before in
+    let b = buffer (checked c) in
+    let v = checked c .check .result in
+    let number : first .put-word .last .0 ≡ put b 0 (v .number) = first .put-word .ensures in
+    let place : second .put-word2 .last .0 ≡ put (first .put-word .last .0) 1 (v .place) = second .put-word2 .ensures in
+    let steps : c .put-word3 .last .0 ≡ put (second .put-word2 .last .0) 2 (v .steps) = c .put-word3 .ensures in
+    steps ∙ ap (λ (l : List ℕ). put l 2 (v .steps)) (place ∙ ap (λ (l : List ℕ). put l 1 (v .place)) number)
 
 returns-2 : tie.Need-returns-2
 unfolding checkReturns checkLeaves
 returns-2 c =
-    let third = c .before .before in
-    let second = third .before .before .before .before in
-    let first = second .before .before .before .before in
-    let found = first .before .before in
-    let start = found .before .before .before .before in
-    let b = start .args .report .now in
-    let size : length b ≡ reportSize = found .before .if1 .left in
-    let v = found .check .result in
-    let is = found .check .ensures .0 in
-    let number : first .put-word .last .0 ≡ put b 0 (v .number) = first .put-word .ensures in
-    let place : second .put-word2 .last .0 ≡ put (first .put-word .last .0) 1 (v .place) = second .put-word2 .ensures in
-    let steps : third .put-word3 .last .0 ≡ put (second .put-word2 .last .0) 2 (v .steps) = third .put-word3 .ensures in
-    let all = steps ∙ ap (λ (l : List ℕ). put l 2 (v .steps)) (place ∙ ap (λ (l : List ℕ). put l 1 (v .place)) number) in (
+    let last = c .before .before in
+    let at = checked last in
+    let size : length (buffer at) ≡ reportSize = at .before .if1 .left in
+    let is = at .check .ensures .0 in (
       simp (eq-eqb _ _ size) (ap (λ (w : Report). w .number) is),
       (
-        simp (eq-eqb _ _ size) (all ∙ filled (v .number ∷ v .place ∷ v .steps ∷ []) b size ∙ ap reportBytes is),
-        λ e.
-            found .check .ensures .1,
+        simp (eq-eqb _ _ size) (all-put last ∙ filled (wordsOf (at .check .result)) (buffer at) size ∙ ap reportBytes is),
+        λ e. at .check .ensures .1,
       ),
     )
 
@@ -63,9 +61,9 @@ pomurica-check-spec =
     tie.close
     (tie.spec
     returns
-    check-requires
-    put-word-requires
-    put-word-requires-2
-    put-word-requires-3
-    same-length
+    (λ c κs. search needs)
+    (λ c κs. search needs)
+    (λ c κs. search needs)
+    (λ c κs. search needs)
+    (λ c. search needs)
     returns-2)

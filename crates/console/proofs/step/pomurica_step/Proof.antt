@@ -3,17 +3,15 @@ use borrow.Author.Needs.{needs}
 use Rattle.console.proofs.step.pomurica_step.Statement.{statement}
 use Rattle.console.proofs.step.pomurica_step.Tie as tie
 
-step-requires : tie.Need-step-requires
-step-requires c κs = search needs
-
-same-length : tie.Need-same-length
-same-length c = search needs
-
-same-length-2 : tie.Need-same-length-2
-same-length-2 c = search needs
-
-returns : tie.Need-returns
-returns c = c .before .before .before .before .step .ensures
+-- the step, seen from behind the buffers that it lets go
+abbrev stepped : tie.After-slice-known4 → tie.After-step
+stepped c = c .before .before .before .before
 
 pub pomurica-step-spec : {M : Type 1} → statement M
-pomurica-step-spec = tie.close (tie.spec step-requires same-length same-length-2 returns)
+pomurica-step-spec =
+    tie.close
+    (tie.spec
+    (λ c κs. search needs)
+    (λ c. search needs)
+    (λ c. search needs)
+    (λ c. stepped c .step .ensures))

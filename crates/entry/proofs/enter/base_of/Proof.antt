@@ -19,21 +19,9 @@ at-either : (b : List ℕ) (t : Bool) (p q : ℕ) → word b (if t then p else q
 at-either b true p q = refl
 at-either b false p q = refl
 
-is-requires : tie.Need-is-requires
-is-requires c κs = search needs
-
-get-word-requires : tie.Need-get-word-requires
-get-word-requires c κs = search needs
-
 returns : tie.Need-returns
 unfolding vectorBase
 returns c = rw (told (c .before .before .is .ensures) (c .before .if1 .taken)) (c .get-word .ensures)
-
-is-requires-2 : tie.Need-is-requires-2
-is-requires-2 c κs = search needs
-
-get-word-requires-2 : tie.Need-get-word-requires-2
-get-word-requires-2 c κs = search needs
 
 returns-2 : tie.Need-returns-2
 unfolding vectorBase
@@ -41,9 +29,6 @@ returns-2 c =
     let else1 = c .before .before .before in
     rw (told (else1 .before .is .ensures) (else1 .if1 .left), told (c .before .before .is2 .ensures) (c .before .if2 .taken))
     (c .get-word2 .ensures)
-
-sctlr-v-requires : tie.Need-sctlr-v-requires
-sctlr-v-requires c κs = search needs
 
 returns-3 : tie.Need-returns-3
 unfolding vectorBase
@@ -55,12 +40,6 @@ returns-3 c =
       told (else2 .before .is2 .ensures) (else2 .if2 .left),
       told (c .before .sctlr-v .ensures) (c .if3 .taken),
     )
-
-own-place-requires : tie.Need-own-place-requires
-own-place-requires c κs = search needs
-
-get-word-requires-3 : tie.Need-get-word-requires-3
-get-word-requires-3 c κs = search needs
 
 returns-4 : tie.Need-returns-4
 unfolding vectorBase
@@ -83,14 +62,14 @@ pub base-of-spec : {M : Type 1} → statement M
 base-of-spec =
     tie.close
     (tie.spec
-    is-requires
-    get-word-requires
+    (λ c κs. search needs)
+    (λ c κs. search needs)
     returns
-    is-requires-2
-    get-word-requires-2
+    (λ c κs. search needs)
+    (λ c κs. search needs)
     returns-2
-    sctlr-v-requires
+    (λ c κs. search needs)
     returns-3
-    own-place-requires
-    get-word-requires-3
+    (λ c κs. search needs)
+    (λ c κs. search needs)
     returns-4)

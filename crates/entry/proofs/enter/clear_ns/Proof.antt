@@ -1,5 +1,5 @@
 -- From Monitor to another mode than Hyp the word is put with bit 0 clear, else nothing is.
-use mathlib.Core.Bool.{Bool, true, false, _&&_, not}
+use mathlib.Core.Bool.{Bool, true, false, _&&_}
 use mathlib.Core.List.{List}
 use mathlib.Core.Path.{_≡_, refl, sym, ap, _∙_}
 use Prim.Native.Nat.{ℕ, _*_, _/_}
@@ -41,24 +41,6 @@ module _ (b : List ℕ) (to : ℕ) where
     unfolding nsCleared
     left h = rw (from-monitor h)
 
-is-requires : tie.Need-is-requires
-is-requires c κs = search needs
-
-returns : tie.Need-returns
-returns c = (to-hyp _ _ (told (c .before .is .ensures) (c .if1 .taken)), c .before .before .before .pre .2)
-
-is-monitor-requires : tie.Need-is-monitor-requires
-is-monitor-requires c κs = search needs
-
-mul-after : tie.Need-mul-after
-mul-after c = search needs
-
-put-word-requires : tie.Need-put-word-requires
-put-word-requires c κs = search needs
-
-same-length : tie.Need-same-length
-same-length c = search needs
-
 returns-2 : tie.Need-returns-2
 returns-2 c =
     let then2 = c .before .before .before .before in
@@ -80,11 +62,11 @@ pub clear-ns-spec : {M : Type 1} → statement M
 clear-ns-spec =
     tie.close
     (tie.spec
-    is-requires
-    returns
-    is-monitor-requires
-    mul-after
-    put-word-requires
-    same-length
+    (λ c κs. search needs)
+    (λ c. (to-hyp _ _ (told (c .before .is .ensures) (c .if1 .taken)), c .before .before .before .pre .2))
+    (λ c κs. search needs)
+    (λ c. search needs)
+    (λ c κs. search needs)
+    (λ c. search needs)
     returns-2
     returns-3)

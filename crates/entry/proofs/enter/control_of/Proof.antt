@@ -8,32 +8,11 @@ use Rattle.state.proofs.Test.{told}
 use Rattle.state.specs.Place.{SCTLR-s}
 use Rattle.words.specs.Word.{word}
 
-is-requires : tie.Need-is-requires
-is-requires c κs = search needs
-
-get-word-requires : tie.Need-get-word-requires
-get-word-requires c κs = search needs
-
-returns : tie.Need-returns
-returns c = rw (told (c .before .before .is .ensures) (c .before .if1 .taken)) (c .get-word .ensures)
-
-is-requires-2 : tie.Need-is-requires-2
-is-requires-2 c κs = search needs
-
-get-word-requires-2 : tie.Need-get-word-requires-2
-get-word-requires-2 c κs = search needs
-
 returns-2 : tie.Need-returns-2
 returns-2 c =
     let else1 = c .before .before .before in
     rw (told (else1 .before .is .ensures) (else1 .if1 .left), told (c .before .before .is2 .ensures) (c .before .if2 .taken))
     (c .get-word2 .ensures)
-
-own-place-requires : tie.Need-own-place-requires
-own-place-requires c κs = search needs
-
-get-word-requires-3 : tie.Need-get-word-requires-3
-get-word-requires-3 c κs = search needs
 
 returns-3 : tie.Need-returns-3
 returns-3 c =
@@ -48,12 +27,12 @@ pub control-of-spec : {M : Type 1} → statement M
 control-of-spec =
     tie.close
     (tie.spec
-    is-requires
-    get-word-requires
-    returns
-    is-requires-2
-    get-word-requires-2
+    (λ c κs. search needs)
+    (λ c κs. search needs)
+    (λ c. rw (told (c .before .before .is .ensures) (c .before .if1 .taken)) (c .get-word .ensures))
+    (λ c κs. search needs)
+    (λ c κs. search needs)
     returns-2
-    own-place-requires
-    get-word-requires-3
+    (λ c κs. search needs)
+    (λ c κs. search needs)
     returns-3)

@@ -14,43 +14,16 @@ whole : (cpsr scr sctlr to : ℕ) {m x : ℕ} → m ≡ masksAfter cpsr scr to
 unfolding cpsrAfter
 whole cpsr scr sctlr to m x = omega arith
 
-mul-result : tie.Need-mul-result
-mul-result c = search needs
-
-mul-result-2 : tie.Need-mul-result-2
-mul-result-2 c = search needs
-
-add-result : tie.Need-add-result
-add-result c = search needs
-
-masks-after-requires : tie.Need-masks-after-requires
-masks-after-requires c κs = search needs
-
-add-result-2 : tie.Need-add-result-2
-add-result-2 c = search needs
-
-t-and-e-requires : tie.Need-t-and-e-requires
-t-and-e-requires c κs = search needs
-
-add-result-3 : tie.Need-add-result-3
-add-result-3 c = search needs
-
-add-result-4 : tie.Need-add-result-4
-add-result-4 c = search needs
-
-returns : tie.Need-returns
-returns c = whole _ _ _ _ (c .before .before .masks-after .ensures .0) (c .before .t-and-e .ensures .0)
-
 pub cpsr-after-spec : {M : Type 1} → statement M
 cpsr-after-spec =
     tie.close
     (tie.spec
-    mul-result
-    mul-result-2
-    add-result
-    masks-after-requires
-    add-result-2
-    t-and-e-requires
-    add-result-3
-    add-result-4
-    returns)
+    (λ c. search needs)
+    (λ c. search needs)
+    (λ c. search needs)
+    (λ c κs. search needs)
+    (λ c. search needs)
+    (λ c κs. search needs)
+    (λ c. search needs)
+    (λ c. search needs)
+    (λ c. whole _ _ _ _ (c .before .before .masks-after .ensures .0) (c .before .t-and-e .ensures .0)))

@@ -14,16 +14,10 @@ whole : (b : List ℕ) (to offset link : ℕ) {cpsr : ℕ} {k l : List ℕ} → 
 unfolding entered
 whole b to offset link e f g = cc
 
-clear-ns-requires : tie.Need-clear-ns-requires
-clear-ns-requires c κs = search needs
-
 write-entry-requires : tie.Need-write-entry-requires
 write-entry-requires c κs =
     let cleared = c .before .before .before in
     (search needs, cleared .before .before .before .pre .1, cleared .clear-ns .ensures .1)
-
-same-length : tie.Need-same-length
-same-length c = search needs
 
 returns : tie.Need-returns
 returns c =
@@ -32,4 +26,5 @@ returns c =
     (c .before .before .write-entry .ensures)
 
 pub enter-spec : {M : Type 1} → statement M
-enter-spec = tie.close (tie.spec clear-ns-requires write-entry-requires same-length returns)
+enter-spec =
+    tie.close (tie.spec (λ c κs. search needs) write-entry-requires (λ c. search needs) returns)

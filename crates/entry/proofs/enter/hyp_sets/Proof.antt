@@ -34,27 +34,6 @@ past h n = omega arith
 seven : (n : ℕ) → 7 ≤ n % 8 → n % 8 ≡ 7
 seven n h = omega arith
 
-returns : tie.Need-returns
-returns c = (is-row _ (c .match .keys1), lit< tt)
-
-returns-2 : tie.Need-returns-2
-returns-2 c = (is-row _ (c .match .keys2), lit< tt)
-
-returns-3 : tie.Need-returns-3
-returns-3 c = (is-row _ (c .match .keys3), lit< tt)
-
-returns-4 : tie.Need-returns-4
-returns-4 c = (is-row _ (c .match .keys4), lit< tt)
-
-returns-5 : tie.Need-returns-5
-returns-5 c = (is-row _ (c .match .keys5), lit< tt)
-
-returns-6 : tie.Need-returns-6
-returns-6 c = (is-row _ (c .match .keys6), lit< tt)
-
-returns-7 : tie.Need-returns-7
-returns-7 c = (is-row _ (c .match .keys7), lit< tt)
-
 returns-8 : tie.Need-returns-8
 returns-8 c =
     let k = c .match .rest in
@@ -66,4 +45,12 @@ returns-8 c =
 pub hyp-sets-spec : {M : Type 1} → statement M
 hyp-sets-spec =
     tie.close
-    (tie.spec returns returns-2 returns-3 returns-4 returns-5 returns-6 returns-7 returns-8)
+    (tie.spec
+    (λ c. (is-row _ (c .match .keys1), lit< tt))
+    (λ c. (is-row _ (c .match .keys2), lit< tt))
+    (λ c. (is-row _ (c .match .keys3), lit< tt))
+    (λ c. (is-row _ (c .match .keys4), lit< tt))
+    (λ c. (is-row _ (c .match .keys5), lit< tt))
+    (λ c. (is-row _ (c .match .keys6), lit< tt))
+    (λ c. (is-row _ (c .match .keys7), lit< tt))
+    returns-8)

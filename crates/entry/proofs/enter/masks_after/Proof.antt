@@ -5,9 +5,6 @@ use Rattle.entry.proofs.Masks.{masks-are, masks-small}
 use Rattle.entry.proofs.enter.masks_after.Statement.{statement}
 use Rattle.entry.proofs.enter.masks_after.Tie as tie
 
-sets-requires : tie.Need-sets-requires
-sets-requires c κs = search needs
-
 mul-result : tie.Need-mul-result
 mul-result c =
     let args = c .before .args in
@@ -21,4 +18,5 @@ returns c =
     (masks-are (args .cpsr) (args .scr) (args .to .number) (c .sets .ensures .0), omega arith)
 
 pub masks-after-spec : {M : Type 1} → statement M
-masks-after-spec = tie.close (tie.spec sets-requires mul-result returns)
+masks-after-spec =
+    tie.close (tie.spec (λ c κs. search needs) mul-result returns)

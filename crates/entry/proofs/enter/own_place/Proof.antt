@@ -18,14 +18,6 @@ own secure scr = by (SCR-NS scr) refl
     by true e = let h = eqb-true (scr / 1 % 2) 1 e in omega arith
     by false e = let h = eqb-false (scr / 1 % 2) 1 e in omega arith
 
-cast-result : tie.Need-cast-result
-cast-result c = search needs
-
-add-result : tie.Need-add-result
-add-result c = search needs
-
-returns : tie.Need-returns
-returns c = (own _ _, omega arith)
-
 pub own-place-spec : {M : Type 1} → statement M
-own-place-spec = tie.close (tie.spec cast-result add-result returns)
+own-place-spec =
+    tie.close (tie.spec (λ c. search needs) (λ c. search needs) (λ c. (own _ _, omega arith)))

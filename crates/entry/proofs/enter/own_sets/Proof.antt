@@ -4,24 +4,6 @@ use lib.Dec.{lit<}
 use Rattle.entry.proofs.enter.own_sets.Statement.{statement}
 use Rattle.entry.proofs.enter.own_sets.Tie as tie
 
-returns : tie.Need-returns
-returns c = (λ n scr. rw (c .if1 .taken), lit< tt)
-
-returns-2 : tie.Need-returns-2
-returns-2 c = (λ n scr. rw (c .if2 .taken), lit< tt)
-
-returns-3 : tie.Need-returns-3
-returns-3 c = (λ n scr. rw (c .if3 .taken), lit< tt)
-
-returns-4 : tie.Need-returns-4
-returns-4 c = (λ n scr. rw (c .if4 .taken), lit< tt)
-
-returns-5 : tie.Need-returns-5
-returns-5 c = (λ n scr. rw (c .if5 .taken), lit< tt)
-
-returns-6 : tie.Need-returns-6
-returns-6 c = (λ n scr. rw (c .if6 .taken), lit< tt)
-
 returns-7 : tie.Need-returns-7
 returns-7 c =
     let else5 = c .before .before in
@@ -44,4 +26,12 @@ returns-7 c =
 
 pub own-sets-spec : {M : Type 1} → statement M
 own-sets-spec =
-    tie.close (tie.spec returns returns-2 returns-3 returns-4 returns-5 returns-6 returns-7)
+    tie.close
+    (tie.spec
+    (λ c. (λ n scr. rw (c .if1 .taken), lit< tt))
+    (λ c. (λ n scr. rw (c .if2 .taken), lit< tt))
+    (λ c. (λ n scr. rw (c .if3 .taken), lit< tt))
+    (λ c. (λ n scr. rw (c .if4 .taken), lit< tt))
+    (λ c. (λ n scr. rw (c .if5 .taken), lit< tt))
+    (λ c. (λ n scr. rw (c .if6 .taken), lit< tt))
+    returns-7)

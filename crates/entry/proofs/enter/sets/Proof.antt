@@ -9,15 +9,6 @@ use Rattle.entry.specs.Parts.{setsNumber}
 use Rattle.state.proofs.Test.{told}
 use Rattle.state.specs.Mode.{HYP}
 
-is-requires : tie.Need-is-requires
-is-requires c κs = search needs
-
-hyp-sets-requires : tie.Need-hyp-sets-requires
-hyp-sets-requires c κs = search needs
-
-own-sets-requires : tie.Need-own-sets-requires
-own-sets-requires c κs = search needs
-
 returns : tie.Need-returns
 returns c =
     let after-is = c .before .before in
@@ -32,4 +23,5 @@ returns-2 c =
     (c .own-sets .ensures .0 not-hyp (after-is .before .args .scr), c .own-sets .ensures .1)
 
 pub sets-spec : {M : Type 1} → statement M
-sets-spec = tie.close (tie.spec is-requires hyp-sets-requires own-sets-requires returns returns-2)
+sets-spec =
+    tie.close (tie.spec (λ c κs. search needs) (λ c κs. search needs) (λ c κs. search needs) returns returns-2)

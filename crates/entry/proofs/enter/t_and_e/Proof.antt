@@ -37,13 +37,11 @@ module _ (w : ℕ) (fits : w < 2 ^ 32) where
   is-small : product x < 1024
   is-small = ltb-true (product x) 1024 (and-right (eqb (product x) (flags x)) _ tried)
 
-mul-result : tie.Need-mul-result
-mul-result c = search needs
-
 returns : tie.Need-returns
 returns c =
     let w = c .args .sctlr in
     (is-flags w (c .fits .sctlr .fits), is-small w (c .fits .sctlr .fits))
 
 pub t-and-e-spec : {M : Type 1} → statement M
-t-and-e-spec = tie.close (tie.spec mul-result returns)
+t-and-e-spec =
+    tie.close (tie.spec (λ c. search needs) returns)

@@ -1,7 +1,7 @@
 -- Four words put, each at the place and with the value of the definition; a target's places lie inside the block.
 use mathlib.Core.List.{List}
 use mathlib.Core.Path.{_≡_}
-use Prim.Native.Nat.{ℕ, _*_, _/_, _%_}
+use Prim.Native.Nat.{ℕ}
 use borrow.Author.Needs.{needs}
 use native.Mathlib.Omega.{arith}
 use Rattle.entry.proofs.enter.write_entry.Statement.{statement}
@@ -30,50 +30,22 @@ whole : (b : List ℕ) (cpsr to offset link : ℕ) {l1 l2 l3 l4 : List ℕ} {sct
 unfolding written
 whole b cpsr to offset link c k a v p q e f g w h = cc
 
-control-of-requires : tie.Need-control-of-requires
-control-of-requires c κs = search needs
-
-cpsr-after-requires : tie.Need-cpsr-after-requires
-cpsr-after-requires c κs = search needs
-
-base-of-requires : tie.Need-base-of-requires
-base-of-requires c κs = search needs
-
-mul-start : tie.Need-mul-start
-mul-start c = search needs
-
-spsr-place-requires : tie.Need-spsr-place-requires
-spsr-place-requires c κs = search needs
+-- what was given, seen from where the first word's place is known
+abbrev given : tie.After-spsr-place → tie.Start
+given c = c .before .before .before .before .before .before .before .before
 
 put-word-requires : tie.Need-put-word-requires
 put-word-requires c κs =
-    let start = c .before .before .before .before .before .before .before .before in
-    let p = spsr-inside (start .args .to .number) (start .pre .1) in
+    let p = spsr-inside (given c .args .to .number) (given c .pre .1) in
     let e = c .spsr-place .ensures in
     omega arith
-
-lr-place-requires : tie.Need-lr-place-requires
-lr-place-requires c κs = search needs
 
 put-word-requires-2 : tie.Need-put-word-requires-2
 put-word-requires-2 c κs =
     let w = c .before .before .before .before .before in
-    let start = w .before .before .before .before .before .before .before .before in
-    let p = lr-inside (start .args .to .number) (start .pre .1) in
+    let p = lr-inside (given w .args .to .number) (given w .pre .1) in
     let e = c .lr-place .ensures in
     omega arith
-
-put-word-requires-3 : tie.Need-put-word-requires-3
-put-word-requires-3 c κs = search needs
-
-wrapping-add-u32-requires : tie.Need-wrapping-add-u32-requires
-wrapping-add-u32-requires c κs = search needs
-
-put-word-requires-4 : tie.Need-put-word-requires-4
-put-word-requires-4 c κs = search needs
-
-same-length : tie.Need-same-length
-same-length c = search needs
 
 -- the places where the four words are put, the last first, and where the first one's parts were found
 returns : tie.Need-returns
@@ -93,16 +65,16 @@ pub write-entry-spec : {M : Type 1} → statement M
 write-entry-spec =
     tie.close
     (tie.spec
-    control-of-requires
-    cpsr-after-requires
-    base-of-requires
-    mul-start
-    spsr-place-requires
+    (λ c κs. search needs)
+    (λ c κs. search needs)
+    (λ c κs. search needs)
+    (λ c. search needs)
+    (λ c κs. search needs)
     put-word-requires
-    lr-place-requires
+    (λ c κs. search needs)
     put-word-requires-2
-    put-word-requires-3
-    wrapping-add-u32-requires
-    put-word-requires-4
-    same-length
+    (λ c κs. search needs)
+    (λ c κs. search needs)
+    (λ c κs. search needs)
+    (λ c. search needs)
     returns)

@@ -12,21 +12,6 @@ not-user : (ns tge : Bool) → false ≡ ((ns && false) && tge)
 not-user true tge = refl
 not-user false tge = refl
 
-is-hyp-requires : tie.Need-is-hyp-requires
-is-hyp-requires c κs = search needs
-
-returns : tie.Need-returns
-returns c = rw (told (c .before .is-hyp .ensures) (c .if1 .taken))
-
-is-user-requires : tie.Need-is-user-requires
-is-user-requires c κs = search needs
-
-scr-ns-requires : tie.Need-scr-ns-requires
-scr-ns-requires c κs = search needs
-
-hcr-tge-requires : tie.Need-hcr-tge-requires
-hcr-tge-requires c κs = search needs
-
 returns-2 : tie.Need-returns-2
 returns-2 c =
     let w = c .before .before .before in
@@ -63,11 +48,11 @@ pub general-to-hyp-spec : {M : Type 1} → statement M
 general-to-hyp-spec =
     tie.close
     (tie.spec
-    is-hyp-requires
-    returns
-    is-user-requires
-    scr-ns-requires
-    hcr-tge-requires
+    (λ c κs. search needs)
+    (λ c. rw (told (c .before .is-hyp .ensures) (c .if1 .taken)))
+    (λ c κs. search needs)
+    (λ c κs. search needs)
+    (λ c κs. search needs)
     returns-2
     returns-3
     returns-4)

@@ -5,17 +5,15 @@ use Prim.Native.Nat.{ℕ}
 use borrow.Author.Needs.{needs}
 use Rattle.entry.proofs.route.hyp_offset.Statement.{statement}
 use Rattle.entry.proofs.route.hyp_offset.Tie as tie
+use Rattle.entry.specs.Offset.{HYP-TRAP}
 use Rattle.entry.specs.Route.{offsetTo}
 use Rattle.state.specs.Choice.{if_then_else_, _is_}
 use Rattle.state.specs.Field.{mode-field}
 use Rattle.state.specs.Mode.{HYP}
 
-by-test : (from own : ℕ) {r t : Bool} → r ≡ (from is HYP) → r ≡ t → (if t then own else 0x14) ≡ offsetTo HYP from own
+by-test : (from own : ℕ) {r t : Bool} → r ≡ (from is HYP) → r ≡ t → (if t then own else HYP-TRAP) ≡ offsetTo HYP from own
 by-test from own {t = true} e h = rw (sym e ∙ h)
 by-test from own {t = false} e h = rw (sym e ∙ h)
-
-is-hyp-requires : tie.Need-is-hyp-requires
-is-hyp-requires c κs = search needs
 
 returns : tie.Need-returns
 returns c =
@@ -28,4 +26,5 @@ returns-2 c =
     by-test (mode-field (args .cpsr)) (args .own) (c .before .is-hyp .ensures) (c .if1 .left)
 
 pub hyp-offset-spec : {M : Type 1} → statement M
-hyp-offset-spec = tie.close (tie.spec is-hyp-requires returns returns-2)
+hyp-offset-spec =
+    tie.close (tie.spec (λ c κs. search needs) returns returns-2)

@@ -26,27 +26,19 @@ module _ (cpsr scr hcr : ℕ) where
   not-tsc : HCR-TSC hcr ≡ false → false ≡ (nsEl1 cpsr scr && HCR-TSC hcr)
   not-tsc h = rw h (and-false (nsEl1 cpsr scr))
 
-  by-mode : {r : Bool} → SCR-NS scr ≡ true → HCR-TSC hcr ≡ true → r ≡ el1 (mode-field cpsr) → r ≡ (nsEl1 cpsr scr && HCR-TSC hcr)
+  by-mode : {r : Bool} → SCR-NS scr ≡ true → HCR-TSC hcr ≡ true → r ≡ el1 (mode-field cpsr)
+      → r ≡ (nsEl1 cpsr scr && HCR-TSC hcr)
   by-mode h k e = e ∙ rw (ns-el1 cpsr scr, h, k) (and-true (el1 (mode-field cpsr)))
-
-scr-ns-requires : tie.Need-scr-ns-requires
-scr-ns-requires c κs = search needs
 
 returns : tie.Need-returns
 returns c =
     let args = c .before .before .args in
     not-ns (args .cpsr) (args .scr) (args .hcr) (told-not (c .before .scr-ns .ensures) (c .if1 .taken))
 
-hcr-tsc-requires : tie.Need-hcr-tsc-requires
-hcr-tsc-requires c κs = search needs
-
 returns-2 : tie.Need-returns-2
 returns-2 c =
     let args = c .before .before .before .before .args in
     not-tsc (args .cpsr) (args .scr) (args .hcr) (told-not (c .before .hcr-tsc .ensures) (c .if2 .taken))
-
-is-el1-requires : tie.Need-is-el1-requires
-is-el1-requires c κs = search needs
 
 returns-3 : tie.Need-returns-3
 returns-3 c =
@@ -59,4 +51,4 @@ returns-3 c =
 pub is-trapped-spec : {M : Type 1} → statement M
 is-trapped-spec =
     tie.close
-    (tie.spec scr-ns-requires returns hcr-tsc-requires returns-2 is-el1-requires returns-3)
+    (tie.spec (λ c κs. search needs) returns (λ c κs. search needs) returns-2 (λ c κs. search needs) returns-3)

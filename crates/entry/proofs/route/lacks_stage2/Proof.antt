@@ -25,16 +25,10 @@ module _ (a cpsr scr : ℕ) where
   by-mode : {r : Bool} → stage2 a ≡ true → secure cpsr scr ≡ false → r ≡ (mode-field cpsr is HYP) → r ≡ Lacks
   by-mode h k e = rw (h, k) e
 
-is-stage2-requires : tie.Need-is-stage2-requires
-is-stage2-requires c κs = search needs
-
 returns : tie.Need-returns
 returns c =
     let args = c .before .before .args in
     no-stage2 (args .a) (args .cpsr) (args .scr) (told-not (c .before .is-stage2 .ensures) (c .if1 .taken))
-
-is-secure-requires : tie.Need-is-secure-requires
-is-secure-requires c κs = search needs
 
 returns-2 : tie.Need-returns-2
 returns-2 c =
@@ -42,9 +36,6 @@ returns-2 c =
     let args = else1 .before .before .args in
     in-secure (args .a) (args .cpsr) (args .scr) (told-still (else1 .before .is-stage2 .ensures) (else1 .if1 .left))
     (told (c .before .is-secure .ensures) (c .if2 .taken))
-
-is-hyp-requires : tie.Need-is-hyp-requires
-is-hyp-requires c κs = search needs
 
 returns-3 : tie.Need-returns-3
 returns-3 c =
@@ -57,4 +48,4 @@ returns-3 c =
 pub lacks-stage2-spec : {M : Type 1} → statement M
 lacks-stage2-spec =
     tie.close
-    (tie.spec is-stage2-requires returns is-secure-requires returns-2 is-hyp-requires returns-3)
+    (tie.spec (λ c κs. search needs) returns (λ c κs. search needs) returns-2 (λ c κs. search needs) returns-3)

@@ -1,89 +1,90 @@
 -- Each way through the tests is one of the ways through the order.
-use borrow.Author.Needs.{needs}
-use Rattle.interrupts.proofs.Laws.{first-serror, first-fiq, first-irq, nothing-virtual, first-virtual-serror, first-virtual-fiq, first-virtual-irq}
+use mathlib.Core.Bool.{Bool, true}
+use mathlib.Core.Path.{_≡_}
+use Rattle.state.proofs.Test.{told, told-not, told-still}
+use Rattle.state.specs.Choice.{if_then_else_}
+use Rattle.interrupts.proofs.Laws.{NonePhysical, first-serror, first-fiq, first-irq, nothing-virtual}
+use Rattle.interrupts.proofs.Laws.{first-virtual-serror, first-virtual-fiq, first-virtual-irq}
 use Rattle.interrupts.proofs.check.first_takeable.Statement.{statement}
 use Rattle.interrupts.proofs.check.first_takeable.Tie as tie
-use Rattle.state.proofs.Test.{told, told-not, told-still}
+use Rattle.interrupts.specs.Check.{found}
+use Rattle.interrupts.specs.Exception.{VirtualIrq}
+use Rattle.interrupts.specs.Parts.{virtualHere}
+use Rattle.interrupts.specs.declared.check.Found.the-variants.{Nothing, First}
 
-takes-serror-requires : tie.Need-takes-serror-requires
-takes-serror-requires c κs = search needs
+-- what was given, seen from behind the tests of the physical exceptions, and what those told
+abbrev given : tie.Else3 → tie.Start
+given c = c .before .before .before .before .before .before
 
-returns : tie.Need-returns
-returns c = first-serror _ _ _ _ (told (c .before .takes-serror .ensures) (c .if1 .taken))
+none-physical : (c : tie.Else3) → let a = given c .args in NonePhysical (a .lines) (a .cpsr) (a .scr) (a .hcr)
+none-physical c =
+    let fiq = c .before .before in
+    let serror = fiq .before .before in (
+      told (serror .before .takes-serror .ensures) (serror .if1 .left),
+      told (fiq .before .takes-fiq .ensures) (fiq .if2 .left),
+      told (c .before .takes-irq .ensures) (c .if3 .left),
+    )
 
-takes-fiq-requires : tie.Need-takes-fiq-requires
-takes-fiq-requires c κs = search needs
+here : (c : tie.Else4) → let a = given (c .before .before) .args in virtualHere (a .cpsr) (a .scr) (a .hcr) ≡ true
+here c = told-still (c .before .is-virtual-here .ensures) (c .if4 .left)
 
 returns-2 : tie.Need-returns-2
-returns-2 c = first-fiq _ _ _ _ (told (c .before .before .before .takes-serror .ensures) (c .before .before .if1 .left)) (told (c .before .takes-fiq .ensures) (c .if2 .taken))
-
-takes-irq-requires : tie.Need-takes-irq-requires
-takes-irq-requires c κs = search needs
+returns-2 c =
+    let serror = c .before .before in
+    first-fiq _ _ _ _ (told (serror .before .takes-serror .ensures) (serror .if1 .left))
+    (told (c .before .takes-fiq .ensures) (c .if2 .taken))
 
 returns-3 : tie.Need-returns-3
 returns-3 c =
-    first-irq _ _ _ _ (told (c .before .before .before .before .before .takes-serror .ensures) (c .before .before .before .before .if1 .left)) (told (c .before .before .before .takes-fiq .ensures) (c .before .before .if2 .left))
-    (told (c .before .takes-irq .ensures) (c .if3 .taken))
-
-is-virtual-here-requires : tie.Need-is-virtual-here-requires
-is-virtual-here-requires c κs = search needs
-
-returns-4 : tie.Need-returns-4
-returns-4 c =
-    nothing-virtual _ _ _ _ (told (c .before .before .before .before .before .before .before .takes-serror .ensures) (c .before .before .before .before .before .before .if1 .left)) (told (c .before .before .before .before .before .takes-fiq .ensures) (c .before .before .before .before .if2 .left))
-    (told (c .before .before .before .takes-irq .ensures) (c .before .before .if3 .left)) (told-not (c .before .is-virtual-here .ensures) (c .if4 .taken))
-
-takes-virtual-serror-requires : tie.Need-takes-virtual-serror-requires
-takes-virtual-serror-requires c κs = search needs
+    let fiq = c .before .before in
+    let serror = fiq .before .before in
+    first-irq _ _ _ _ (told (serror .before .takes-serror .ensures) (serror .if1 .left))
+    (told (fiq .before .takes-fiq .ensures) (fiq .if2 .left)) (told (c .before .takes-irq .ensures) (c .if3 .taken))
 
 returns-5 : tie.Need-returns-5
 returns-5 c =
-    first-virtual-serror _ _ _ _ (told (c .before .before .before .before .before .before .before .before .before .takes-serror .ensures) (c .before .before .before .before .before .before .before .before .if1 .left)) (told (c .before .before .before .before .before .before .before .takes-fiq .ensures) (c .before .before .before .before .before .before .if2 .left))
-    (told (c .before .before .before .before .before .takes-irq .ensures) (c .before .before .before .before .if3 .left)) (told-still (c .before .before .before .is-virtual-here .ensures) (c .before .before .if4 .left))
+    let at = c .before .before in
+    first-virtual-serror _ _ _ _ (none-physical (at .before .before)) (here at)
     (told (c .before .takes-virtual-serror .ensures) (c .if5 .taken))
-
-takes-virtual-fiq-requires : tie.Need-takes-virtual-fiq-requires
-takes-virtual-fiq-requires c κs = search needs
 
 returns-6 : tie.Need-returns-6
 returns-6 c =
-    first-virtual-fiq _ _ _ _ (told (c .before .before .before .before .before .before .before .before .before .before .before .takes-serror .ensures) (c .before .before .before .before .before .before .before .before .before .before .if1 .left)) (told (c .before .before .before .before .before .before .before .before .before .takes-fiq .ensures) (c .before .before .before .before .before .before .before .before .if2 .left))
-    (told (c .before .before .before .before .before .before .before .takes-irq .ensures) (c .before .before .before .before .before .before .if3 .left)) (told-still (c .before .before .before .before .before .is-virtual-here .ensures) (c .before .before .before .before .if4 .left))
-    (told (c .before .before .before .takes-virtual-serror .ensures) (c .before .before .if5 .left)) (told (c .before .takes-virtual-fiq .ensures) (c .if6 .taken))
+    let serror = c .before .before in
+    let at = serror .before .before in
+    first-virtual-fiq _ _ _ _ (none-physical (at .before .before)) (here at)
+    (told (serror .before .takes-virtual-serror .ensures) (serror .if5 .left))
+    (told (c .before .takes-virtual-fiq .ensures) (c .if6 .taken))
 
-takes-virtual-irq-requires : tie.Need-takes-virtual-irq-requires
-takes-virtual-irq-requires c κs = search needs
+-- the last of the six, or nothing
+abbrev at-last : tie.After-takes-virtual-irq → tie.Else4
+at-last c = c .before .before .before .before .before
 
-returns-7 : tie.Need-returns-7
-returns-7 c =
-    first-virtual-irq _ _ _ _ (told (c .before .before .before .before .before .before .before .before .before .before .before .before .before .takes-serror .ensures) (c .before .before .before .before .before .before .before .before .before .before .before .before .if1 .left)) (told (c .before .before .before .before .before .before .before .before .before .before .before .takes-fiq .ensures) (c .before .before .before .before .before .before .before .before .before .before .if2 .left))
-    (told (c .before .before .before .before .before .before .before .before .before .takes-irq .ensures) (c .before .before .before .before .before .before .before .before .if3 .left)) (told-still (c .before .before .before .before .before .before .before .is-virtual-here .ensures) (c .before .before .before .before .before .before .if4 .left))
-    (told (c .before .before .before .before .before .takes-virtual-serror .ensures) (c .before .before .before .before .if5 .left)) (told (c .before .before .before .takes-virtual-fiq .ensures) (c .before .before .if6 .left))
-    (told (c .before .takes-virtual-irq .ensures) (c .if7 .taken))
-
-returns-8 : tie.Need-returns-8
-returns-8 c =
-    first-virtual-irq _ _ _ _ (told (c .before .before .before .before .before .before .before .before .before .before .before .before .before .takes-serror .ensures) (c .before .before .before .before .before .before .before .before .before .before .before .before .if1 .left)) (told (c .before .before .before .before .before .before .before .before .before .before .before .takes-fiq .ensures) (c .before .before .before .before .before .before .before .before .before .before .if2 .left))
-    (told (c .before .before .before .before .before .before .before .before .before .takes-irq .ensures) (c .before .before .before .before .before .before .before .before .if3 .left)) (told-still (c .before .before .before .before .before .before .before .is-virtual-here .ensures) (c .before .before .before .before .before .before .if4 .left))
-    (told (c .before .before .before .before .before .takes-virtual-serror .ensures) (c .before .before .before .before .if5 .left)) (told (c .before .before .before .takes-virtual-fiq .ensures) (c .before .before .if6 .left))
-    (told (c .before .takes-virtual-irq .ensures) (c .if7 .left))
+last : (c : tie.After-takes-virtual-irq) {t : Bool} → c .takes-virtual-irq .result ≡ t
+    → let a = given (at-last c .before .before) .args in
+    (if t then First VirtualIrq else Nothing) ≡ found (a .lines) (a .cpsr) (a .scr) (a .hcr)
+last c h =
+    let fiq = c .before in
+    let serror = fiq .before .before in
+    first-virtual-irq _ _ _ _ (none-physical (at-last c .before .before)) (here (at-last c))
+    (told (serror .before .takes-virtual-serror .ensures) (serror .if5 .left))
+    (told (fiq .before .takes-virtual-fiq .ensures) (fiq .if6 .left)) (told (c .takes-virtual-irq .ensures) h)
 
 pub first-takeable-spec : {M : Type 1} → statement M
 first-takeable-spec =
     tie.close
     (tie.spec
-    takes-serror-requires
-    returns
-    takes-fiq-requires
+    (λ c κs. tt)
+    (λ c. first-serror _ _ _ _ (told (c .before .takes-serror .ensures) (c .if1 .taken)))
+    (λ c κs. tt)
     returns-2
-    takes-irq-requires
+    (λ c κs. tt)
     returns-3
-    is-virtual-here-requires
-    returns-4
-    takes-virtual-serror-requires
+    (λ c κs. tt)
+    (λ c. nothing-virtual _ _ _ _ (none-physical (c .before .before)) (told-not (c .before .is-virtual-here .ensures) (c .if4 .taken)))
+    (λ c κs. tt)
     returns-5
-    takes-virtual-fiq-requires
+    (λ c κs. tt)
     returns-6
-    takes-virtual-irq-requires
-    returns-7
-    returns-8)
+    (λ c κs. tt)
+    (λ c. last (c .before) (c .if7 .taken))
+    (λ c. last (c .before) (c .if7 .left)))

@@ -7,24 +7,6 @@ use Rattle.interrupts.proofs.takeable.takes_irq.Tie as tie
 use Rattle.interrupts.specs.Kind.{irq}
 use Rattle.interrupts.specs.Takeable.{takeable, pending, masked}
 
-cpsr-i-requires : tie.Need-cpsr-i-requires
-cpsr-i-requires c κs = search needs
-
-is-secure-requires : tie.Need-is-secure-requires
-is-secure-requires c κs = search needs
-
-is-hyp-requires : tie.Need-is-hyp-requires
-is-hyp-requires c κs = search needs
-
-hcr-imo-requires : tie.Need-hcr-imo-requires
-hcr-imo-requires c κs = search needs
-
-scr-irq-requires : tie.Need-scr-irq-requires
-scr-irq-requires c κs = search needs
-
-takes-requires : tie.Need-takes-requires
-takes-requires c κs = search needs
-
 returns : tie.Need-returns
 unfolding takeable pending masked
 returns c =
@@ -41,10 +23,10 @@ pub takes-irq-spec : {M : Type 1} → statement M
 takes-irq-spec =
     tie.close
     (tie.spec
-    cpsr-i-requires
-    is-secure-requires
-    is-hyp-requires
-    hcr-imo-requires
-    scr-irq-requires
-    takes-requires
+    (λ c κs. search needs)
+    (λ c κs. search needs)
+    (λ c κs. search needs)
+    (λ c κs. search needs)
+    (λ c κs. search needs)
+    (λ c κs. search needs)
     returns)

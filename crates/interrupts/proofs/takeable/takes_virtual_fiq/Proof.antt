@@ -5,21 +5,6 @@ use Rattle.interrupts.proofs.takeable.takes_virtual_fiq.Statement.{stat
 use Rattle.interrupts.proofs.takeable.takes_virtual_fiq.Tie as tie
 use Rattle.interrupts.specs.Kind.{fiq}
 
-hcr-fmo-requires : tie.Need-hcr-fmo-requires
-hcr-fmo-requires c κs = search needs
-
-hcr-vf-requires : tie.Need-hcr-vf-requires
-hcr-vf-requires c κs = search needs
-
-either-requires : tie.Need-either-requires
-either-requires c κs = search needs
-
-cpsr-f-requires : tie.Need-cpsr-f-requires
-cpsr-f-requires c κs = search needs
-
-takes-virtual-requires : tie.Need-takes-virtual-requires
-takes-virtual-requires c κs = search needs
-
 returns : tie.Need-returns
 returns c =
     let sourced = c .before .before in
@@ -32,9 +17,9 @@ pub takes-virtual-fiq-spec : {M : Type 1} → statement M
 takes-virtual-fiq-spec =
     tie.close
     (tie.spec
-    hcr-fmo-requires
-    hcr-vf-requires
-    either-requires
-    cpsr-f-requires
-    takes-virtual-requires
+    (λ c κs. search needs)
+    (λ c κs. search needs)
+    (λ c κs. search needs)
+    (λ c κs. search needs)
+    (λ c κs. search needs)
     returns)

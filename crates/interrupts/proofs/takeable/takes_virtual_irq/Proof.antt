@@ -5,21 +5,6 @@ use Rattle.interrupts.proofs.takeable.takes_virtual_irq.Statement.{stat
 use Rattle.interrupts.proofs.takeable.takes_virtual_irq.Tie as tie
 use Rattle.interrupts.specs.Kind.{irq}
 
-hcr-imo-requires : tie.Need-hcr-imo-requires
-hcr-imo-requires c κs = search needs
-
-hcr-vi-requires : tie.Need-hcr-vi-requires
-hcr-vi-requires c κs = search needs
-
-either-requires : tie.Need-either-requires
-either-requires c κs = search needs
-
-cpsr-i-requires : tie.Need-cpsr-i-requires
-cpsr-i-requires c κs = search needs
-
-takes-virtual-requires : tie.Need-takes-virtual-requires
-takes-virtual-requires c κs = search needs
-
 returns : tie.Need-returns
 returns c =
     let sourced = c .before .before in
@@ -32,9 +17,9 @@ pub takes-virtual-irq-spec : {M : Type 1} → statement M
 takes-virtual-irq-spec =
     tie.close
     (tie.spec
-    hcr-imo-requires
-    hcr-vi-requires
-    either-requires
-    cpsr-i-requires
-    takes-virtual-requires
+    (λ c κs. search needs)
+    (λ c κs. search needs)
+    (λ c κs. search needs)
+    (λ c κs. search needs)
+    (λ c κs. search needs)
     returns)

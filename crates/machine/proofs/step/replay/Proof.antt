@@ -9,15 +9,15 @@ use Rattle.machine.proofs.step.replay.Statement.{statement}
 use Rattle.machine.proofs.step.replay.Tie as tie
 use borrow.Author.Needs.{needs}
 
--- both sizes, seen from behind the two tests
-block-size : (c : tie.Else2) → length (c .before .before .before .before .args .block .now) ≡ BLOCK-SIZE
+-- what was lent and both sizes, seen from behind the two tests
+abbrev given : tie.Else2 → tie.Start
+given c = c .before .before .before .before
+
+block-size : (c : tie.Else2) → length (given c .args .block .now) ≡ BLOCK-SIZE
 block-size c = c .before .if1 .left
 
-buffer-size : (c : tie.Else2) → length (c .before .before .before .before .args .buffer .now) ≡ ANSWER-SIZE
+buffer-size : (c : tie.Else2) → length (given c .args .buffer .now) ≡ ANSWER-SIZE
 buffer-size c = c .if2 .left
-
-wrong-first : tie.Need-returns
-wrong-first c = replayed _ _ _ (wrong-block _ _ _ (c .if1 .taken)) (λ s z. absurd (c .if1 .taken s))
 
 wrong-second : tie.Need-returns-2
 wrong-second c =
@@ -34,7 +34,7 @@ pub replay-spec : {M : Type 1} → statement M
 replay-spec =
     tie.close
     (tie.spec
-    wrong-first
+    (λ c. replayed _ _ _ (wrong-block _ _ _ (c .if1 .taken)) (λ s z. absurd (c .if1 .taken s)))
     wrong-second
     (λ c κs. (block-size (c .before .before), buffer-size (c .before .before)))
     (λ c. search needs)

@@ -8,18 +8,15 @@ use Rattle.machine.proofs.step.step.Statement.{statement}
 use Rattle.machine.proofs.step.step.Tie as tie
 use borrow.Author.Needs.{needs}
 
--- both sizes, seen from behind the two tests
-block-size : (c : tie.Else2) → length (c .before .before .before .before .args .block .now) ≡ BLOCK-SIZE
+-- what was lent and both sizes, seen from behind the two tests
+abbrev given : tie.Else2 → tie.Start
+given c = c .before .before .before .before
+
+block-size : (c : tie.Else2) → length (given c .args .block .now) ≡ BLOCK-SIZE
 block-size c = c .before .if1 .left
 
-buffer-size : (c : tie.Else2) → length (c .before .before .before .before .args .buffer .now) ≡ ANSWER-SIZE
+buffer-size : (c : tie.Else2) → length (given c .args .buffer .now) ≡ ANSWER-SIZE
 buffer-size c = c .if2 .left
-
-wrong-first : tie.Need-returns
-wrong-first c = wrong-block _ _ _ (c .if1 .taken)
-
-wrong-second : tie.Need-returns-2
-wrong-second c = wrong-buffer _ _ _ (c .before .if1 .left) (c .if2 .taken)
 
 done : tie.Need-returns-3
 done c =
@@ -31,8 +28,8 @@ pub step-spec : {M : Type 1} → statement M
 step-spec =
     tie.close
     (tie.spec
-    wrong-first
-    wrong-second
+    (λ c. wrong-block _ _ _ (c .if1 .taken))
+    (λ c. wrong-buffer _ _ _ (c .before .if1 .left) (c .if2 .taken))
     (λ c κs. (block-size (c .before .before), buffer-size (c .before .before)))
     (λ c. search needs)
     (λ c. search needs)

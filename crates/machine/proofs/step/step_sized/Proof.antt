@@ -3,9 +3,9 @@ use mathlib.Core.Path.{_≡_, sym, _∙_}
 use Rattle.state.specs.Number.{DONE, BAD-EVENT}
 use Rattle.state.specs.State.{fault}
 use Rattle.rules.specs.Parts.{Ready}
-use Rattle.rules.proofs.Carrying.{same-action, refused}
+use Rattle.rules.proofs.Carrying.{refused}
 use Rattle.rules.proofs.Deciding.{fault-read, no-code}
-use Rattle.machine.proofs.Stepping.{by-fault, at-code, no-arm}
+use Rattle.machine.proofs.Stepping.{by-fault, arm, no-arm}
 use Rattle.machine.proofs.step.step_sized.Statement.{statement}
 use Rattle.machine.proofs.step.step_sized.Tie as tie
 use borrow.Author.Needs.{needs}
@@ -47,66 +47,6 @@ unknown c =
     let at = c .before .before .before .before .before in
     refused _ BAD-EVENT (no-code _ _ _ (start (at .before) .pre .0) (good at) _ (no-arm _ n)) (c .before .before .refuse2 .ensures)
 
-undefined-instruction : tie.Need-returns-2
-undefined-instruction c =
-    let at = c .before .before .before .before in
-    same-action _ (at-code _ _ _ (at .before .before .before .match .keys1)) (at .undefined-instruction .ensures)
-
-svc : tie.Need-returns-3
-svc c =
-    let at = c .before .before .before .before in
-    same-action _ (at-code _ _ _ (at .before .before .before .match .keys2)) (at .svc .ensures)
-
-smc : tie.Need-returns-4
-smc c =
-    let at = c .before .before .before .before in
-    same-action _ (at-code _ _ _ (at .before .before .before .match .keys3)) (at .smc .ensures)
-
-hvc : tie.Need-returns-5
-hvc c =
-    let at = c .before .before .before .before in
-    same-action _ (at-code _ _ _ (at .before .before .before .match .keys4)) (at .hvc .ensures)
-
-prefetch-abort : tie.Need-returns-6
-prefetch-abort c =
-    let at = c .before .before .before .before in
-    same-action _ (at-code _ _ _ (at .before .before .before .match .keys5)) (at .prefetch-abort .ensures)
-
-data-abort : tie.Need-returns-7
-data-abort c =
-    let at = c .before .before .before .before in
-    same-action _ (at-code _ _ _ (at .before .before .before .match .keys6)) (at .data-abort .ensures)
-
-hyp-trap : tie.Need-returns-8
-hyp-trap c =
-    let at = c .before .before .before .before in
-    same-action _ (at-code _ _ _ (at .before .before .before .match .keys7)) (at .hyp-trap .ensures)
-
-monitor-trap : tie.Need-returns-9
-monitor-trap c =
-    let at = c .before .before .before .before in
-    same-action _ (at-code _ _ _ (at .before .before .before .match .keys8)) (at .monitor-trap .ensures)
-
-check : tie.Need-returns-10
-check c =
-    let at = c .before .before .before .before in
-    same-action _ (at-code _ _ _ (at .before .before .before .match .keys9)) (at .check .ensures)
-
-banked-read : tie.Need-returns-11
-banked-read c =
-    let at = c .before .before .before .before in
-    same-action _ (at-code _ _ _ (at .before .before .before .match .keys10)) (at .banked-read .ensures)
-
-banked-write : tie.Need-returns-12
-banked-write c =
-    let at = c .before .before .before .before in
-    same-action _ (at-code _ _ _ (at .before .before .before .match .keys11)) (at .banked-write .ensures)
-
-note : tie.Need-returns-13
-note c =
-    let at = c .before .before .before .before in
-    same-action _ (at-code _ _ _ (at .before .before .before .match .keys12)) (at .note .ensures)
-
 pub step-sized-spec : {M : Type 1} → statement M
 step-sized-spec =
     tie.close
@@ -137,40 +77,64 @@ step-sized-spec =
     -- each arm leaves both buffers with their lengths
     (λ c. search needs)
     (λ c. search needs)
-    undefined-instruction
+    (λ c.
+    let at = c .before .before .before .before in
+    arm _ _ _ (at .before .before .before .match .keys1) (at .undefined-instruction .ensures))
     (λ c. search needs)
     (λ c. search needs)
-    svc
+    (λ c.
+    let at = c .before .before .before .before in
+    arm _ _ _ (at .before .before .before .match .keys2) (at .svc .ensures))
     (λ c. search needs)
     (λ c. search needs)
-    smc
+    (λ c.
+    let at = c .before .before .before .before in
+    arm _ _ _ (at .before .before .before .match .keys3) (at .smc .ensures))
     (λ c. search needs)
     (λ c. search needs)
-    hvc
+    (λ c.
+    let at = c .before .before .before .before in
+    arm _ _ _ (at .before .before .before .match .keys4) (at .hvc .ensures))
     (λ c. search needs)
     (λ c. search needs)
-    prefetch-abort
+    (λ c.
+    let at = c .before .before .before .before in
+    arm _ _ _ (at .before .before .before .match .keys5) (at .prefetch-abort .ensures))
     (λ c. search needs)
     (λ c. search needs)
-    data-abort
+    (λ c.
+    let at = c .before .before .before .before in
+    arm _ _ _ (at .before .before .before .match .keys6) (at .data-abort .ensures))
     (λ c. search needs)
     (λ c. search needs)
-    hyp-trap
+    (λ c.
+    let at = c .before .before .before .before in
+    arm _ _ _ (at .before .before .before .match .keys7) (at .hyp-trap .ensures))
     (λ c. search needs)
     (λ c. search needs)
-    monitor-trap
+    (λ c.
+    let at = c .before .before .before .before in
+    arm _ _ _ (at .before .before .before .match .keys8) (at .monitor-trap .ensures))
     (λ c. search needs)
     (λ c. search needs)
-    check
+    (λ c.
+    let at = c .before .before .before .before in
+    arm _ _ _ (at .before .before .before .match .keys9) (at .check .ensures))
     (λ c. search needs)
     (λ c. search needs)
-    banked-read
+    (λ c.
+    let at = c .before .before .before .before in
+    arm _ _ _ (at .before .before .before .match .keys10) (at .banked-read .ensures))
     (λ c. search needs)
     (λ c. search needs)
-    banked-write
+    (λ c.
+    let at = c .before .before .before .before in
+    arm _ _ _ (at .before .before .before .match .keys11) (at .banked-write .ensures))
     (λ c. search needs)
     (λ c. search needs)
-    note
+    (λ c.
+    let at = c .before .before .before .before in
+    arm _ _ _ (at .before .before .before .match .keys12) (at .note .ensures))
     (λ c. search needs)
     (λ c. search needs)
     unknown)

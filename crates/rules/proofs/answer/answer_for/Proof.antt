@@ -7,9 +7,6 @@ use Rattle.rules.specs.Verdict.{Answer}
 use Rattle.state.specs.Number.{DONE}
 use borrow.Author.Needs.{needs}
 
-value-of-requires : tie.Need-value-of-requires
-value-of-requires c κs = search needs
-
 returns : tie.Need-returns
 returns c = ap answerOf (c .value-of .ensures)
   where
@@ -17,4 +14,5 @@ returns c = ap answerOf (c .value-of .ensures)
     answerOf v = record { number = DONE; value = v }
 
 pub answer-for-spec : {M : Type 1} → statement M
-answer-for-spec = tie.close (tie.spec value-of-requires returns)
+answer-for-spec =
+    tie.close (tie.spec (λ c κs. search needs) returns)

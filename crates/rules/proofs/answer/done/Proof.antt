@@ -11,17 +11,11 @@ use borrow.Author.Needs.{needs}
 same-told : {x y : Answer} {n : ℕ} {m : List ℕ} → x ≡ y → Told x n m → Told y n m
 same-told e h = rw e at h
 
-answer-for-requires : tie.Need-answer-for-requires
-answer-for-requires c κs = search needs
-
-tell-requires : tie.Need-tell-requires
-tell-requires c κs = search needs
-
-same-length : tie.Need-same-length
-same-length c = search needs
-
-returns : tie.Need-returns
-returns c = same-told (c .before .before .before .answer-for .ensures) (c .before .before .tell .ensures)
-
 pub done-spec : {M : Type 1} → statement M
-done-spec = tie.close (tie.spec answer-for-requires tell-requires same-length returns)
+done-spec =
+    tie.close
+    (tie.spec
+    (λ c κs. search needs)
+    (λ c κs. search needs)
+    (λ c. search needs)
+    (λ c. same-told (c .before .before .before .answer-for .ensures) (c .before .before .tell .ensures)))

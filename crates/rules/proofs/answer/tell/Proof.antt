@@ -7,17 +7,7 @@ use Rattle.rules.proofs.Buffer.{two-words}
 use Rattle.rules.proofs.answer.tell.Statement.{statement}
 use Rattle.rules.proofs.answer.tell.Tie as tie
 use Rattle.rules.specs.Step.{answerBytes}
-use Rattle.rules.specs.Verdict.{Answer}
 use Rattle.words.specs.Word.{put}
-
-put-word-requires : tie.Need-put-word-requires
-put-word-requires c κs = search needs
-
-put-word-requires-2 : tie.Need-put-word-requires-2
-put-word-requires-2 c κs = search needs
-
-same-length : tie.Need-same-length
-same-length c = search needs
 
 -- the answer that is told and the buffer that was lent, seen from behind both stores
 abbrev given : tie.After-slice-known3 → tie.Start
@@ -33,8 +23,11 @@ filled c =
     let value : second .last .0 ≡ put (first .last .0) 1 (x .value) = second .ensures in
     value ∙ ap (λ (b : List ℕ). put b 1 (x .value)) number ∙ two-words lent (x .number) (x .value) (given c .pre)
 
-returns : tie.Need-returns
-returns c = (refl, filled c, search needs)
-
 pub tell-spec : {M : Type 1} → statement M
-tell-spec = tie.close (tie.spec put-word-requires put-word-requires-2 same-length returns)
+tell-spec =
+    tie.close
+    (tie.spec
+    (λ c κs. search needs)
+    (λ c κs. search needs)
+    (λ c. search needs)
+    (λ c. (refl, filled c, search needs)))

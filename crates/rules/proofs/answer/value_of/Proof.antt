@@ -14,41 +14,20 @@ entry c =
     let parts = c .before .before .before .v .given .0 in
     Entry (parts .0) (parts .1 .0) (parts .1 .1 .0)
 
-is-entry : (c : tie.After-struct-known) → c .before .before .before .before .before .args .v ≡ entry c
+abbrev given : tie.After-struct-known → tie.Start
+given c = c .before .before .before .before .before
+
+is-entry : (c : tie.After-struct-known) → given c .args .v ≡ entry c
 is-entry c = c .before .before .before .v .given .1
 
 small : (c : tie.After-struct-known) → Small (entry c)
-small c = told (is-entry c) (c .before .before .before .before .before .pre)
+small c = told (is-entry c) (given c .pre)
   where
     told : {x y : Verdict} → x ≡ y → Small x → Small y
     told e h = rw e at h
 
-enum-known-v : tie.Need-enum-known-v
-enum-known-v c = search needs
-
-which-of-requires : tie.Need-which-of-requires
-which-of-requires c κs = search needs
-
-mul-result : tie.Need-mul-result
-mul-result c = omega arith
-
-mul-result-2 : tie.Need-mul-result-2
-mul-result-2 c = let s = small c in record { fits = omega arith }
-
-add-result : tie.Need-add-result
-add-result c = let s = small c in record { fits = omega arith }
-
-add-result-2 : tie.Need-add-result-2
-add-result-2 c = let s = small c in record { fits = omega arith }
-
 enum-told : tie.Need-enum-told
 enum-told c = search needs
-
-enum-known-v-2 : tie.Need-enum-known-v-2
-enum-known-v-2 c = search needs
-
-enum-told-2 : tie.Need-enum-told-2
-enum-told-2 c = search needs
 
 returns : tie.Need-returns
 unfolding value
@@ -73,15 +52,15 @@ pub value-of-spec : {M : Type 1} → statement M
 value-of-spec =
     tie.close
     (tie.spec
-    enum-known-v
-    which-of-requires
-    mul-result
-    mul-result-2
-    add-result
-    add-result-2
+    (λ c. search needs)
+    (λ c κs. search needs)
+    (λ c. omega arith)
+    (λ c. let s = small c in record { fits = omega arith })
+    (λ c. let s = small c in record { fits = omega arith })
+    (λ c. let s = small c in record { fits = omega arith })
     enum-told
-    enum-known-v-2
-    enum-told-2
+    (λ c. search needs)
+    (λ c. search needs)
     returns
     returns-2
     returns-3

@@ -1,14 +1,8 @@
 -- The bound, and then B.
-use mathlib.Core.Bool.{not}
 use borrow.Author.Tests.{lt-leb, le-leb}
 use Rattle.rules.proofs.event.beyond.Statement.{statement}
 use Rattle.rules.proofs.event.beyond.Tie as tie
 
-returns : tie.Need-returns
-returns c = rw (lt-leb _ _ (c .if1 .taken))
-
-returns-2 : tie.Need-returns-2
-returns-2 c = rw (le-leb _ _ (c .if1 .left))
-
 pub beyond-spec : {M : Type 1} → statement M
-beyond-spec = tie.close (tie.spec returns returns-2)
+beyond-spec =
+    tie.close (tie.spec (λ c. rw (lt-leb _ _ (c .if1 .taken))) (λ c. rw (le-leb _ _ (c .if1 .left))))

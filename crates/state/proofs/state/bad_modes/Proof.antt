@@ -7,12 +7,6 @@ use Rattle.state.proofs.state.bad_modes.Statement.{statement}
 use Rattle.state.proofs.state.bad_modes.Tie as tie
 use Rattle.state.specs.Mode.{known, el1}
 
-scr-ns-requires : tie.Need-scr-ns-requires
-scr-ns-requires c κs = search needs
-
-hcr-tge-requires : tie.Need-hcr-tge-requires
-hcr-tge-requires c κs = search needs
-
 returns : tie.Need-returns
 unfolding known el1
 returns c =
@@ -30,4 +24,5 @@ unfolding known el1
 returns-3 c = bad-modes _ (told (c .before .scr-ns .ensures) (c .if1 .left)) refl refl
 
 pub bad-modes-spec : {M : Type 1} → statement M
-bad-modes-spec = tie.close (tie.spec scr-ns-requires hcr-tge-requires returns returns-2 returns-3)
+bad-modes-spec =
+    tie.close (tie.spec (λ c κs. search needs) (λ c κs. search needs) returns returns-2 returns-3)

@@ -6,22 +6,10 @@ use Rattle.state.proofs.Good.{in-bad-mode, not-clear, is-good}
 use Rattle.state.proofs.state.fault_of.Statement.{statement}
 use Rattle.state.proofs.state.fault_of.Tie as tie
 
-bad-modes-requires : tie.Need-bad-modes-requires
-bad-modes-requires c κs = search needs
-
-shr-if1 : tie.Need-shr-if1
-shr-if1 c = search needs
-
-mode-fault-requires : tie.Need-mode-fault-requires
-mode-fault-requires c κs = search needs
-
 returns : tie.Need-returns
 returns c =
     let set = c .before .before .bad-modes in
     c .mode-fault .ensures ∙ in-bad-mode _ _ _ (set .result) (set .ensures) (eq-eqb _ _ (c .before .if1 .taken))
-
-mul-if2 : tie.Need-mul-if2
-mul-if2 c = search needs
 
 returns-2 : tie.Need-returns-2
 returns-2 c =
@@ -36,4 +24,11 @@ returns-3 c =
 pub fault-of-spec : {M : Type 1} → statement M
 fault-of-spec =
     tie.close
-    (tie.spec bad-modes-requires shr-if1 mode-fault-requires returns mul-if2 returns-2 returns-3)
+    (tie.spec
+    (λ c κs. search needs)
+    (λ c. search needs)
+    (λ c κs. search needs)
+    returns
+    (λ c. search needs)
+    returns-2
+    returns-3)

@@ -3,14 +3,6 @@ use borrow.Author.Needs.{needs}
 use Rattle.state.proofs.state.is_known.Statement.{statement}
 use Rattle.state.proofs.state.is_known.Tie as tie
 
-of-requires : tie.Need-of-requires
-of-requires c κs = search needs
-
-is-known-requires : tie.Need-is-known-requires
-is-known-requires c κs = search needs
-
-returns : tie.Need-returns
-returns c = cc
-
 pub is-known-spec : {M : Type 1} → statement M
-is-known-spec = tie.close (tie.spec of-requires is-known-requires returns)
+is-known-spec =
+    tie.close (tie.spec (λ c κs. search needs) (λ c κs. search needs) (λ c. cc))

@@ -2,9 +2,8 @@
 use mathlib.Core.Bool.{true}
 use mathlib.Core.Logic.{_↔_}
 use mathlib.Core.Path.{_≡_}
-use Prim.Native.Nat.{ℕ, _-_, _≤_}
+use Prim.Native.Nat.{_-_, _≤_}
 use borrow.Author.Needs.{needs}
-use lib.ListN.{length}
 use Rattle.words.specs.Runs.{Agree}
 use Rattle.words.proofs.Agree.{agree-none, agree-more, agree-to}
 use Rattle.words.proofs.runs.same_between.Statement.{statement}

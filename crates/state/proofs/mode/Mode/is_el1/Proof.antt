@@ -6,9 +6,6 @@ use Rattle.state.proofs.mode.Mode.is_el1.Statement.{statement}
 use Rattle.state.proofs.mode.Mode.is_el1.Tie as tie
 use Rattle.state.specs.Mode.{el1, el1-modes}
 
-shr-result : tie.Need-shr-result
-shr-result c = search needs
-
 returns : tie.Need-returns
 unfolding el1
 returns c = in-set _ el1-modes refl _ (c .if1 .taken)
@@ -18,4 +15,5 @@ unfolding el1
 returns-2 c = sym (among-out 32 el1-modes refl _ (c .if1 .left))
 
 pub is-el1-spec : {M : Type 1} → statement M
-is-el1-spec = tie.close (tie.spec shr-result returns returns-2)
+is-el1-spec =
+    tie.close (tie.spec (λ c. search needs) returns returns-2)

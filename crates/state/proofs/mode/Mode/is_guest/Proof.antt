@@ -6,9 +6,6 @@ use Rattle.state.proofs.mode.Mode.is_guest.Statement.{statement}
 use Rattle.state.proofs.mode.Mode.is_guest.Tie as tie
 use Rattle.state.specs.Mode.{guest, guest-modes}
 
-shr-result : tie.Need-shr-result
-shr-result c = search needs
-
 returns : tie.Need-returns
 unfolding guest
 returns c = in-set _ guest-modes refl _ (c .if1 .taken)
@@ -18,4 +15,5 @@ unfolding guest
 returns-2 c = sym (among-out 32 guest-modes refl _ (c .if1 .left))
 
 pub is-guest-spec : {M : Type 1} → statement M
-is-guest-spec = tie.close (tie.spec shr-result returns returns-2)
+is-guest-spec =
+    tie.close (tie.spec (λ c. search needs) returns returns-2)

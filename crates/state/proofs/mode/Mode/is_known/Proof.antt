@@ -6,9 +6,6 @@ use Rattle.state.proofs.mode.Mode.is_known.Statement.{statement}
 use Rattle.state.proofs.mode.Mode.is_known.Tie as tie
 use Rattle.state.specs.Mode.{known, modes}
 
-shr-result : tie.Need-shr-result
-shr-result c = search needs
-
 returns : tie.Need-returns
 unfolding known
 returns c = in-set _ modes refl _ (c .if1 .taken)
@@ -18,4 +15,5 @@ unfolding known
 returns-2 c = sym (among-out 32 modes refl _ (c .if1 .left))
 
 pub is-known-spec : {M : Type 1} → statement M
-is-known-spec = tie.close (tie.spec shr-result returns returns-2)
+is-known-spec =
+    tie.close (tie.spec (λ c. search needs) returns returns-2)

@@ -14,18 +14,21 @@ use Rattle.machine.proofs.Stepping.{Performed}
 use Rattle.trace.proofs.Faults.{head-whole}
 use Rattle.trace.proofs.Judging.{judged-head, judged-by, event-read}
 use Rattle.trace.proofs.Lawful01.{lawful01}
-use Rattle.trace.proofs.judge_step.Statement.{statement}
-use Rattle.trace.proofs.judge_step.Tie as tie
+use Rattle.trace.proofs.judgements.judge_step.Statement.{statement}
+use Rattle.trace.proofs.judgements.judge_step.Tie as tie
 use Rattle.trace.specs.Judged.{Judged}
 use Rattle.trace.specs.Layout.{layout01, stepSize}
 use Rattle.trace.specs.Report.{WRONG-STEP, headNumber, eventOf}
 
--- the rest of the trace and the block before, seen from where the head is right
+-- what was handed over, the rest of the trace and the block before, seen from where the head is right
+abbrev start : tie.Else1 → tie.Start
+start c = c .before .before .before .before
+
 abbrev rest : tie.Else1 → List ℕ
-rest c = c .before .before .before .before .args .r .now
+rest c = start c .args .r .now
 
 abbrev block : tie.Else1 → List ℕ
-block c = c .before .before .before .before .args .block .now
+block c = start c .args .block .now
 
 right-head : (c : tie.Else1) → headNumber (stepSize layout01) (layout01 .stepKind) (rest c) ≡ 0
 right-head c = sym (c .before .judge-head .ensures) ∙ c .if1 .left
@@ -50,8 +53,7 @@ stepped c =
     let asked = c .before .before in
     let e = event-read (rest (headed c)) _ _ _ (asked .before .before .word-at .ensures)
     (asked .before .word-at2 .ensures) (asked .word-at3 .ensures) in
-    let size = headed c .before .before .before .before .pre in
-    rw e at (carried (block (headed c)) _ cleared (c .replay .ensures) size refl)
+    rw e at (carried (block (headed c)) _ cleared (c .replay .ensures) (start (headed c) .pre) refl)
 
 abbrev replayed : tie.After-shows-arg → tie.After-replay
 replayed c = c .before .before .before .before .before
@@ -69,34 +71,10 @@ judged c =
     let at = replayed (c .before) in
     let head = headed at in
     let p = stepped at in
-    judged-by layout01 lawful01 (rest head) (block head)
+    judged-by layout01 lawful01 (rest head) (block head) (start head .pre)
     (λ i. head .before .before .before .shared-slice-known .given i .fits)
     (λ i. head .before .before .slice-known .given i .fits)
     (right-head head) (left at) _ (read-back (block head) (eventOf (rest head)) p) (p .1 .0) (c .shows .ensures)
-
-judge-head-requires : tie.Need-judge-head-requires
-judge-head-requires c κs = search needs
-
-returns : tie.Need-returns
-returns c = judged-head layout01 lawful01 _ _ _ _ (c .before .judge-head .ensures) (c .if1 .taken)
-
-word-at-requires : tie.Need-word-at-requires
-word-at-requires c κs = omega (arith, whole (c .before))
-
-word-at-requires-2 : tie.Need-word-at-requires-2
-word-at-requires-2 c κs = omega (arith, whole (c .before .before))
-
-word-at-requires-3 : tie.Need-word-at-requires-3
-word-at-requires-3 c κs = omega (arith, whole (c .before .before .before))
-
-slice-aggregate-replay : tie.Need-slice-aggregate-replay
-slice-aggregate-replay c = search needs
-
-replay-requires : tie.Need-replay-requires
-replay-requires c κs = search needs
-
-slice-aggregate-shows : tie.Need-slice-aggregate-shows
-slice-aggregate-shows c = search needs
 
 shows-requires : tie.Need-shows-requires
 shows-requires c κs =
@@ -104,35 +82,23 @@ shows-requires c κs =
     let p = stepped (replayed c) in (
       whole head,
       ap length (p .1 .1 .0),
-      ap length (p .1 .0) ∙ length-after (block head) _ ∙ head .before .before .before .before .pre,
+      ap length (p .1 .0) ∙ length-after (block head) _ ∙ start head .pre,
     )
-
-same-length : tie.Need-same-length
-same-length c = search needs
-
-returns-2 : tie.Need-returns-2
-returns-2 c = judged (c .before) .0 (not-true _ (c .if2 .taken))
-
-same-length-2 : tie.Need-same-length-2
-same-length-2 c = search needs
-
-returns-3 : tie.Need-returns-3
-returns-3 c = judged (c .before) .1 (not-false _ (c .if2 .left))
 
 pub judge-step-spec : {M : Type 1} → statement M
 judge-step-spec =
     tie.close
     (tie.spec
-    judge-head-requires
-    returns
-    word-at-requires
-    word-at-requires-2
-    word-at-requires-3
-    slice-aggregate-replay
-    replay-requires
-    slice-aggregate-shows
+    (λ c κs. search needs)
+    (λ c. judged-head layout01 lawful01 _ _ _ _ (c .before .judge-head .ensures) (c .if1 .taken))
+    (λ c κs. omega (arith, whole (c .before)))
+    (λ c κs. omega (arith, whole (c .before .before)))
+    (λ c κs. omega (arith, whole (c .before .before .before)))
+    (λ c. search needs)
+    (λ c κs. search needs)
+    (λ c. search needs)
     shows-requires
-    same-length
-    returns-2
-    same-length-2
-    returns-3)
+    (λ c. search needs)
+    (λ c. judged (c .before) .0 (not-true _ (c .if2 .taken)))
+    (λ c. search needs)
+    (λ c. judged (c .before) .1 (not-false _ (c .if2 .left))))

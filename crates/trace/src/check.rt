@@ -1,0 +1,97 @@
+// The checker: one pass over the trace, one working block stepped in place, no copy of the trace.
+use crate::judgements::ACCEPTED;
+use crate::judgements::judge_end;
+use crate::judgements::judge_start;
+use crate::judgements::judge_step;
+use crate::layout;
+use state::number::TRAILING;
+use state::place;
+use words::word_at;
+ghost use mathlib.Core.Path.{_≡_};
+ghost use mathlib.Core.Logic.{_↔_};
+ghost use Prim.Native.Nat.{_+_, _≤_, _<_, _^_};
+ghost use lib.ListN.{length, drop};
+ghost use Rattle.trace.specs.Layout.{layout01, startSize, endSize, mostSteps};
+ghost use Rattle.trace.specs.Published.{Published};
+ghost use Rattle.trace.specs.Report.{endReport, reportFrom, report};
+
+// What the checker answers: a number, the place, and the Steps found right before it.
+#[repr(C)]
+pub struct Report {
+    pub number: u32,
+    pub place: u32,
+    pub steps: u32,
+}
+
+// End, due at this place after all Steps, and nothing behind it.
+fn finish(r: &[u8], steps: u32, place: u32) -> Report
+    requires { ⌜ place + endSize < 2 ^ 32 ⌝ }
+    ensures { λ v. ⌜ v ≡ endReport steps place (now (r .entry)) ⌝ }
+{
+    let fault = judge_end(r, steps);
+    if fault != ACCEPTED {
+        return Report {
+            number: fault,
+            place,
+            steps,
+        };
+    }
+    if (layout::END_SIZE as usize) < r.len() {
+        return Report {
+            number: TRAILING,
+            place: place + layout::END_SIZE,
+            steps,
+        };
+    }
+    Report {
+        number: ACCEPTED,
+        place: place + layout::END_SIZE,
+        steps,
+    }
+}
+
+// The Steps and the End, from the block of a right Start that counts this many Steps.
+fn judge_rest(trace: &[u8], steps: u32, block: &mut [u8]) -> Report
+    requires { ⌜ (steps ≤ mostSteps) × (startSize layout01 ≤ length (now trace)) × (length (now block) ≡ layout01 .size) ⌝ }
+    ensures { λ v. ⌜ v ≡ reportFrom layout01 steps 0 (now (block .entry)) (drop (startSize layout01) (now (trace .entry))) ⌝ }
+{
+    let mut k: u32 = 0;
+    let mut place: u32 = layout::START_SIZE;
+    while k < steps {
+        let at = place as usize;
+        let fault = judge_step(&trace[at..], block);
+        if fault != ACCEPTED {
+            return Report {
+                number: fault,
+                place,
+                steps: k,
+            };
+        }
+        k += 1;
+        place += layout::STEP_SIZE;
+    }
+    let at = place as usize;
+    finish(&trace[at..], steps, place)
+}
+
+// The report on any bytes; number 0 exactly on a published trace.
+pub fn check(trace: &[u8]) -> Report
+    ensures report { λ v. ⌜ v ≡ report layout01 (now (trace .entry)) ⌝ }
+    ensures exact { λ v. ⌜ (v .number ≡ 0) ↔ Published layout01 (now (trace .entry)) ⌝ }
+{
+    let fault = judge_start(trace);
+    if fault != ACCEPTED {
+        return Report {
+            number: fault,
+            place: 0,
+            steps: 0,
+        };
+    }
+    let steps = word_at(trace, layout::COUNT);
+    let mut block = [0u8; place::BLOCK_SIZE];
+    bytes::copy(
+        &trace[layout::START_BLOCK..layout::START_SIZE as usize],
+        &mut block,
+    );
+    judge_rest(trace, steps, &mut block)
+}
