@@ -259,7 +259,7 @@ static const uint8_t CELLS[64] = {
 /* The modes of a set in the low half for NS 0, in the high half for NS 1: modes 0x10 to 0x1F are bits 0 to 15. */
 #define BOTH(modes) (((modes) >> 16) | ((modes) & UINT32_C(0xFFFF0000)))
 #define NS_1(modes) ((modes) & UINT32_C(0xFFFF0000))
-#define BUT(modes) (UINT32_C(0xFFFF0000) & ~(modes))
+#define BUT(modes) (UINT32_C(0xFFFF0000) & ~(uint32_t)(modes))
 #define FROM(mode) BOTH(ONLY(mode) | USER)
 
 /* By place: the modes and states that may not reach the register. */

@@ -11,7 +11,7 @@ enum { MOST_ROWS = 14 };
 
 static uint32_t mode_of(const uint8_t *block)
 {
-    return pomurica_get_word(block, POMURICA_PLACE_CPSR) & CPSR_MODE;
+    return pomurica_get_word(block, POMURICA_PLACE_CPSR) & POMURICA_CPSR_MODE;
 }
 
 enum lane lane_of(const uint8_t *block)
@@ -24,15 +24,15 @@ enum lane lane_of(const uint8_t *block)
         return LANE_MONITOR;
     if (mode == POMURICA_MODE_HYP)
         return LANE_HYP;
-    return pomurica_get_word(block, POMURICA_PLACE_SCR) & SCR_NS ? LANE_GUEST : LANE_SECURE;
+    return pomurica_get_word(block, POMURICA_PLACE_SCR) & POMURICA_SCR_NS ? LANE_GUEST : LANE_SECURE;
 }
 
 static enum outcome recorded_outcome(const struct shown *shown, uint32_t index)
 {
     const uint8_t *const step = shown->trace + step_place(index);
 
-    return outcome_of(pomurica_get_word(step, STEP_CODE), pomurica_get_word(step, STEP_NUMBER),
-                      pomurica_get_word(step, STEP_VALUE));
+    return outcome_of(pomurica_get_word(step, POMURICA_STEP_CODE), pomurica_get_word(step, POMURICA_STEP_NUMBER),
+                      pomurica_get_word(step, POMURICA_STEP_VALUE));
 }
 
 uint32_t count_right(const struct shown *shown, enum outcome outcome)
@@ -88,13 +88,13 @@ static void count_step(struct row *row, uint32_t index)
 
     column->steps++;
     column->wrong |= is_wrong(shown, index);
-    column->counts[(index < shown->judged ? OF_LANE : PALE_OF_LANE) + lane_of(block)]++;
+    column->counts[lane_series(lane_of(block), index < shown->judged)]++;
     if (is_single(row->spread))
         column->mode = (uint8_t)mode_of(block);
-    if (index >= shown->right)
-        return;
-    column->counts[ENTRIES] += outcome == OUTCOME_ENTRY;
-    column->counts[REFUSALS] += outcome == OUTCOME_REFUSED;
+    if (index < shown->right && outcome == OUTCOME_ENTRY)
+        column->counts[ENTRIES]++;
+    if (index < shown->right && outcome == OUTCOME_REFUSED)
+        column->counts[REFUSALS]++;
 }
 
 void begin_rows(struct row *row, const struct shown *shown, const struct spread *spread)

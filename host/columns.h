@@ -25,6 +25,12 @@ enum series {
     SERIES
 };
 
+/* Where a Step of a lane is counted. */
+static inline enum series lane_series(unsigned lane, bool judged)
+{
+    return (judged ? OF_LANE : PALE_OF_LANE) + lane;
+}
+
 /* The columns of a row at most: of a single Step each, or of several. */
 enum {
     SINGLE_COLUMNS = 100, SHARED_COLUMNS = 500

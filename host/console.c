@@ -4,6 +4,7 @@
  */
 #define _POSIX_C_SOURCE 200809L
 
+#include "name.h"
 #include "page.h"
 #include "phrases.h"
 #include "pomurica.h"
@@ -46,11 +47,17 @@ static const char HELP[] =
     "\n"
     "Judges the trace in each FILE and prints one line for each:\n"
     "\n"
-    "    FILE: accepted, N Steps\n"
+    "    FILE: accepted, N Steps: N done, N refused\n"
     "    FILE: refused NUMBER NAME at byte PLACE after N Steps\n"
     "\n"
+    "A refused Step is no fault of the trace: the rules refuse its event. Behind\n"
+    "`accepted, 0 Steps` nothing stands. In a name `?` stands for each byte of what is\n"
+    "not shown: bytes that are no UTF-8, control characters, ends of lines, and the\n"
+    "controls that turn the direction of the text.\n"
+    "\n"
     "  -         standard input\n"
-    "  --explain under a refused trace, say what was due and what was there\n"
+    "  --explain under a refused trace, say what was due and what was there; under an\n"
+    "            accepted one in which no Step was done, warn that it shows nothing\n"
     "  --trace   under each, list its Steps up to the first wrong one\n"
     "  --html    in place of lines, write a page for a browser: the verdict, the modes\n"
     "            by Step and what each Step changed; of one FILE, with no other option\n"
@@ -102,7 +109,9 @@ static bool parse(int argc, char **argv, struct wish *wish)
         } else if (strcmp(argv[i], "--help") == 0) {
             wish->help = true;
         } else {
-            fprintf(stderr, "console: no option %s\n", argv[i]);
+            fputs("console: no option ", stderr);
+            put_name(stderr, argv[i]);
+            fputc('\n', stderr);
             return false;
         }
     }
@@ -153,21 +162,11 @@ static void hide_progress(struct progress *progress)
     progress->shown = false;
 }
 
-/* A file's name, safe to print: a control character could forge a line of its own. */
-static void print_name(FILE *stream, const char *name)
-{
-    for (; *name != '\0'; name++) {
-        const unsigned char byte = (unsigned char)*name;
-
-        fputc(byte < 0x20 || byte == 0x7F ? '?' : byte, stream);
-    }
-}
-
 /* Names a file that cannot be read, with the system's reason. */
 static enum status complain(const char *name, int reason)
 {
     fprintf(stderr, "console: ");
-    print_name(stderr, name);
+    put_name(stderr, name);
     fprintf(stderr, ": %s\n", strerror(reason));
     return TROUBLE;
 }
@@ -216,11 +215,11 @@ static void send_output(void)
 }
 
 /* Prints the verdict on a file, as one whole line; report has it in its first three words. */
-static void print_verdict(const char *name, const uint8_t *report)
+static void print_verdict(const char *name, const uint8_t *trace, const uint8_t *report)
 {
-    print_name(stdout, name);
+    put_name(stdout, name);
     fputs(": ", stdout);
-    tell_verdict(stdout, report);
+    tell_verdict(stdout, trace, report);
     fputc('\n', stdout);
 }
 
@@ -231,11 +230,11 @@ static void print_file(const char *name, const uint8_t *bytes, size_t length, co
     if (wish->html)
         write_page(stdout, name, bytes, length, explanation);
     else
-        print_verdict(name, explanation);
+        print_verdict(name, bytes, explanation);
     if (wish->trace)
         tell_steps(stdout, bytes, explanation);
     if (wish->explain)
-        tell_refusal(stdout, bytes, length, explanation);
+        tell_explanation(stdout, bytes, length, explanation);
     send_output();
 }
 
@@ -299,5 +298,5 @@ int main(int argc, char **argv)
     }
     status = judge_files(&wish, bytes);
     free(bytes);
-    return status;
+    return (int)status;
 }

@@ -5,6 +5,7 @@
 #include "phrases.h"
 #include "pomurica.h"
 #include "record.h"
+#include "status.h"
 
 #include <inttypes.h>
 
@@ -34,13 +35,31 @@ static void list_changes(FILE *out, const uint8_t *step)
     fputs(changes == 0 ? "<p>No word changed.</p>" : "</table>", out);
 }
 
+/* The fields of CPSR that a Step changed, if any. */
+static void list_fields(FILE *out, const uint8_t *step)
+{
+    const uint32_t before = pomurica_get_word(block_before(step), POMURICA_PLACE_CPSR);
+    const uint32_t after = pomurica_get_word(block_after(step), POMURICA_PLACE_CPSR);
+
+    if (before == after)
+        return;
+    fputs("<p>CPSR: ", out);
+    tell_fields(out, after, "was", before);
+    fputs("</p>", out);
+}
+
 /* One word of a wrong Step: what was due, what was found, and before them what stood there. */
 static void list_due(FILE *out, uint32_t part, const char *before, uint32_t due, uint32_t found)
 {
     fprintf(out, "<tr%s><th>%s</th><td>%s</td>", due == found ? "" : " class=\"differs\"", part_name(part), before);
     put_word(out, due);
     put_word(out, found);
-    fprintf(out, "<td>%s</td></tr>\n", due == found ? "" : "differs");
+    fputs(due == found ? "<td>" : "<td>differs", out);
+    if (due != found && is_status(part)) {
+        fputs(": ", out);
+        tell_fields(out, found, "due", due);
+    }
+    fputs("</td></tr>\n", out);
 }
 
 /* The words of a wrong Step: its answer, and each place that was to change or did. */
@@ -51,7 +70,7 @@ static void list_dues(FILE *out, const uint8_t *step, const struct due *due)
     fputs("<table><tr><th>word</th><th>before</th><th>due</th><th>found</th><td></td></tr>\n", out);
     for (uint32_t i = 0; i < POMURICA_ANSWER_SIZE / 4; i++)
         list_due(out, POMURICA_PART_NUMBER + i, "", pomurica_get_word(due->answer, i),
-                 pomurica_get_word(step, STEP_NUMBER + i));
+                 pomurica_get_word(step, POMURICA_STEP_NUMBER + i));
     for (uint32_t place = 0; place < POMURICA_PLACES; place++) {
         const uint32_t before = pomurica_get_word(block_before(step), place);
         const uint32_t given = pomurica_get_word(due->block, place);
@@ -63,6 +82,14 @@ static void list_dues(FILE *out, const uint8_t *step, const struct due *due)
         list_due(out, POMURICA_PART_BLOCK + place, text, given, found);
     }
     fputs("</table>", out);
+}
+
+/* The words of a Step's event, which its line tells by their names. */
+static void list_event(FILE *out, const uint8_t *step)
+{
+    fputs("<p>", out);
+    tell_event_words(out, step);
+    fputs("</p>\n", out);
 }
 
 /* What a Step's line begins with: its number and place, its event, and the state that it met. */
@@ -83,9 +110,10 @@ static void list_wrong_step(FILE *out, const uint8_t *step, uint32_t index)
     fprintf(out, "<details id=\"s%" PRIu32 "\" class=\"wrong\" open>", index + 1);
     begin_line(out, step, index);
     fputs("<span><b>WRONG</b>; the rules give: ", out);
-    tell_outcome(out, pomurica_get_word(step, STEP_CODE), pomurica_get_word(due.answer, 0),
+    tell_outcome(out, pomurica_get_word(step, POMURICA_STEP_CODE), pomurica_get_word(due.answer, 0),
                  pomurica_get_word(due.answer, 1));
     fputs("</span></summary>", out);
+    list_event(out, step);
     list_dues(out, step, &due);
     fputs("</details>\n", out);
 }
@@ -101,15 +129,18 @@ static const char *outcome_style(enum outcome outcome)
 /* A Step as its record has it: a right one has what the rules give. */
 static void list_step(FILE *out, const uint8_t *step, uint32_t index, bool judged)
 {
-    const uint32_t code = pomurica_get_word(step, STEP_CODE);
-    const uint32_t number = pomurica_get_word(step, STEP_NUMBER), value = pomurica_get_word(step, STEP_VALUE);
+    const uint32_t code = pomurica_get_word(step, POMURICA_STEP_CODE);
+    const uint32_t number = pomurica_get_word(step, POMURICA_STEP_NUMBER);
+    const uint32_t value = pomurica_get_word(step, POMURICA_STEP_VALUE);
 
     fprintf(out, "<details id=\"s%" PRIu32 "\"%s>", index + 1, judged ? "" : " class=\"pale\"");
     begin_line(out, step, index);
     fprintf(out, "<span%s>", outcome_style(outcome_of(code, number, value)));
     tell_outcome(out, code, number, value);
     fputs("</span></summary>", out);
+    list_event(out, step);
     list_changes(out, step);
+    list_fields(out, step);
     fputs("</details>\n", out);
 }
 

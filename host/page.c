@@ -2,6 +2,7 @@
 #include "page.h"
 
 #include "listing.h"
+#include "name.h"
 #include "phrases.h"
 #include "pomurica.h"
 #include "record.h"
@@ -12,63 +13,14 @@
 
 #include <inttypes.h>
 
-/*
- * The bytes of the UTF-8 character that begins here, 0 where none does.  The
- * bounds of the second byte leave out the controls above 0x7F, what has a
- * shorter form, surrogates, and what lies behind the last character.
- */
-static size_t character_size(const unsigned char *at)
-{
-    const unsigned least = at[0] == 0xC2 || at[0] == 0xE0 ? 0xA0 : at[0] == 0xF0 ? 0x90 : 0x80;
-    const unsigned most = at[0] == 0xED ? 0x9F : at[0] == 0xF4 ? 0x8F : 0xBF;
-    const size_t size = at[0] < 0xE0 ? 2 : at[0] < 0xF0 ? 3 : 4;
-
-    if (at[0] < 0x80)
-        return at[0] >= 0x20 && at[0] != 0x7F;
-    if (at[0] < 0xC2 || at[0] > 0xF4 || at[1] < least || at[1] > most)
-        return 0;
-    for (size_t i = 2; i < size; i++)
-        if (at[i] < 0x80 || at[i] > 0xBF)
-            return 0;
-    return size;
-}
-
-static void put_character(FILE *out, const unsigned char *at, size_t size)
-{
-    switch (at[0]) {
-    case '&': fputs("&amp;", out); break;
-    case '<': fputs("&lt;", out); break;
-    case '>': fputs("&gt;", out); break;
-    case '"': fputs("&quot;", out); break;
-    case '\'': fputs("&#39;", out); break;
-    default: fwrite(at, 1, size, out); break;
-    }
-}
-
-/* A file's name as text, `?` for each byte that is part of no character to be shown. */
-static void put_name(FILE *out, const char *name)
-{
-    const unsigned char *at = (const unsigned char *)name;
-
-    while (*at != '\0') {
-        const size_t size = character_size(at);
-
-        if (size == 0)
-            fputc('?', out);
-        else
-            put_character(out, at, size);
-        at += size == 0 ? 1 : size;
-    }
-}
-
 /* Steps stand behind a wrong one as far as records with a Step's head do, whole, and Start counts them. */
 static uint32_t count_recorded(const uint8_t *trace, size_t length, uint32_t judged)
 {
-    const uint32_t head = POMURICA_STEP_SIZE | STEP_KIND << 16, counted = pomurica_get_word(trace, RECORD_COUNT);
+    const uint32_t counted = pomurica_get_word(trace, POMURICA_RECORD_COUNT);
     uint32_t index = judged;
 
     while (index < counted && step_place(index + 1) <= length &&
-           pomurica_get_word(trace + step_place(index), RECORD_HEAD) == head)
+           pomurica_get_word(trace + step_place(index), POMURICA_RECORD_HEAD) == POMURICA_STEP_HEAD)
         index++;
     return index;
 }
@@ -88,9 +40,9 @@ static struct shown look_at(const uint8_t *trace, size_t length, const uint8_t *
 {
     struct shown shown = { .trace = trace, .explanation = explanation };
 
-    shown.right = pomurica_get_word(explanation, TOLD_STEPS);
+    shown.right = pomurica_get_word(explanation, POMURICA_EXPLANATION_STEPS);
     shown.judged = shown.recorded = shown.right;
-    if (pomurica_get_word(explanation, TOLD_NUMBER) == POMURICA_WRONG_STEP) {
+    if (pomurica_get_word(explanation, POMURICA_EXPLANATION_NUMBER) == POMURICA_WRONG_STEP) {
         shown.judged++;
         shown.recorded = count_recorded(trace, length, shown.judged);
     }
@@ -98,21 +50,35 @@ static struct shown look_at(const uint8_t *trace, size_t length, const uint8_t *
     return shown;
 }
 
+static bool is_accepted(const struct shown *shown)
+{
+    return pomurica_get_word(shown->explanation, POMURICA_EXPLANATION_NUMBER) == POMURICA_DONE;
+}
+
+/* What --explain says: the warning that goes with an accepted trace, and what is wrong with a refused one. */
+static void write_explanation(FILE *out, size_t length, const struct shown *shown, const char *warning)
+{
+    if (warning != NULL)
+        fprintf(out, "<p class=\"warning\">%s</p>\n", warning);
+    if (is_accepted(shown))
+        return;
+    fputs("<pre>", out);
+    tell_explanation(out, shown->trace, length, shown->explanation);
+    fputs("</pre>\n", out);
+}
+
 /* The console's line, what --explain says under it, and the ways to a wrong Step. */
 static void write_verdict(FILE *out, const char *name, size_t length, const struct shown *shown)
 {
-    const bool accepted = pomurica_get_word(shown->explanation, TOLD_NUMBER) == POMURICA_DONE;
+    const char *const warning = warning_of(shown->trace, shown->explanation);
 
-    fprintf(out, "<header class=\"%s\">\n<h1><bdi>", accepted ? "accepted" : "refused");
-    put_name(out, name);
+    fprintf(out, "<header class=\"%s%s\">\n<h1><bdi>", is_accepted(shown) ? "accepted" : "refused",
+            warning != NULL ? " warned" : "");
+    put_name_in_page(out, name);
     fputs("</bdi>: ", out);
-    tell_verdict(out, shown->explanation);
+    tell_verdict(out, shown->trace, shown->explanation);
     fputs("</h1>\n", out);
-    if (!accepted) {
-        fputs("<pre>", out);
-        tell_refusal(out, shown->trace, length, shown->explanation);
-        fputs("</pre>\n", out);
-    }
+    write_explanation(out, length, shown, warning);
     if (shown->right < shown->judged)
         fprintf(out,
                 "<p>This Step <a href=\"#wrong\">in the timeline</a>, "
@@ -128,9 +94,9 @@ void write_page(FILE *out, const char *name, const uint8_t *trace, size_t length
     fputs("<!doctype html>\n<html lang=\"en\">\n<head>\n<meta charset=\"utf-8\">\n"
           "<meta http-equiv=\"Content-Security-Policy\" content=\"default-src 'none'; style-src 'unsafe-inline'\">\n"
           "<meta name=\"viewport\" content=\"width=device-width, initial-scale=1\">\n<title>", out);
-    put_name(out, name);
+    put_name_in_page(out, name);
     fputs(": ", out);
-    tell_verdict(out, explanation);
+    tell_verdict(out, trace, explanation);
     fputs("</title>\n<style>\n", out);
     fputs(STYLE, out);
     fputs("</style>\n</head>\n<body>\n", out);

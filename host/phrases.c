@@ -45,8 +45,13 @@ static const char *const CELLS_R_1[8][4] = {
     { NONE, NONE, NONE, NONE },
 };
 
-/* A of a banked access, 32 * R + SYSm, is at most this. */
-enum { MOST_CELL = 63 };
+/* The most that A of an event may be, where it has one (document 01, "Events"). */
+enum {
+    MOST_ABORT = POMURICA_ABORT_EXTERNAL | POMURICA_ABORT_STAGE_2,
+    MOST_LINES = 31,
+    MOST_CELL = 63, /* 32 * R + SYSm */
+    MOST_PLACE = POMURICA_PLACES - 1
+};
 
 static const char *const LINES[] = { "SError", "FIQ", "IRQ", "virtual FIQ", "virtual IRQ" };
 
@@ -112,16 +117,35 @@ const char *part_name(uint32_t part)
     return part == POMURICA_PART_VALUE ? "answer value" : register_name(part - POMURICA_PART_BLOCK);
 }
 
-void tell_verdict(FILE *out, const uint8_t *report)
+static void tell_acceptance(FILE *out, const uint8_t *trace, uint32_t steps)
 {
-    const uint32_t number = pomurica_get_word(report, TOLD_NUMBER);
-    const uint32_t place = pomurica_get_word(report, TOLD_PLACE), steps = pomurica_get_word(report, TOLD_STEPS);
+    const uint32_t done = count_done(trace, steps);
+
+    fprintf(out, "accepted, %" PRIu32 " Steps", steps);
+    if (steps > 0)
+        fprintf(out, ": %" PRIu32 " done, %" PRIu32 " refused", done, steps - done);
+}
+
+void tell_verdict(FILE *out, const uint8_t *trace, const uint8_t *report)
+{
+    const uint32_t number = pomurica_get_word(report, POMURICA_REPORT_NUMBER);
+    const uint32_t place = pomurica_get_word(report, POMURICA_REPORT_PLACE);
+    const uint32_t steps = pomurica_get_word(report, POMURICA_REPORT_STEPS);
 
     if (number == POMURICA_DONE)
-        fprintf(out, "accepted, %" PRIu32 " Steps", steps);
+        tell_acceptance(out, trace, steps);
     else
         fprintf(out, "refused %" PRIu32 " %s at byte %" PRIu32 " after %" PRIu32 " Steps", number,
                 pomurica_number_name(number), place, steps);
+}
+
+const char *warning_of(const uint8_t *trace, const uint8_t *report)
+{
+    const bool accepted = pomurica_get_word(report, POMURICA_REPORT_NUMBER) == POMURICA_DONE;
+
+    if (!accepted || count_done(trace, pomurica_get_word(report, POMURICA_REPORT_STEPS)) > 0)
+        return NULL;
+    return "warning: no Step was done, so the trace shows nothing of what the unit runs";
 }
 
 static void tell_lines(FILE *out, uint32_t lines)
@@ -137,25 +161,15 @@ static void tell_lines(FILE *out, uint32_t lines)
         }
 }
 
-static void tell_note(FILE *out, uint32_t place, uint32_t word)
-{
-    if (place < POMURICA_PLACES)
-        fprintf(out, ": %s becomes 0x%08" PRIX32, register_name(place), word);
-    else
-        fprintf(out, " on place %" PRIu32 ", which is none", place);
-}
-
-static void tell_banked(FILE *out, uint32_t a)
+static void tell_cell(FILE *out, uint32_t a)
 {
     if (banked_name(a) != NULL)
         fputs(banked_name(a), out);
-    else if (a > MOST_CELL)
-        fprintf(out, "no register (A %" PRIu32 ", above %d)", a, MOST_CELL);
     else
         fprintf(out, "no register (R %" PRIu32 " SYSm 0x%02" PRIX32 ")", a >> 5, a & 31);
 }
 
-/* What follows the name of an event: its operands. */
+/* What the operands of an event say, behind its name, where they are in their ranges. */
 static void tell_operands(FILE *out, uint32_t code, uint32_t a, uint32_t b)
 {
     switch (code) {
@@ -168,39 +182,83 @@ static void tell_operands(FILE *out, uint32_t code, uint32_t a, uint32_t b)
         break;
     case POMURICA_EVENT_BANKED_READ:
         fputs(" of ", out);
-        tell_banked(out, a);
+        tell_cell(out, a);
         break;
     case POMURICA_EVENT_BANKED_WRITE:
         fprintf(out, " of 0x%08" PRIX32 " to ", b);
-        tell_banked(out, a);
+        tell_cell(out, a);
         break;
     case POMURICA_EVENT_NOTE:
-        tell_note(out, a, b);
+        fprintf(out, ": %s becomes 0x%08" PRIX32, register_name(a), b);
         break;
     default:
         break;
     }
 }
 
+/* The most that A may be; 0 where it must be 0. */
+static uint32_t most_a(uint32_t code)
+{
+    switch (code) {
+    case POMURICA_EVENT_PREFETCH_ABORT:
+    case POMURICA_EVENT_DATA_ABORT: return MOST_ABORT;
+    case POMURICA_EVENT_INTERRUPT_CHECK: return MOST_LINES;
+    case POMURICA_EVENT_BANKED_READ:
+    case POMURICA_EVENT_BANKED_WRITE: return MOST_CELL;
+    case POMURICA_EVENT_NOTE: return MOST_PLACE;
+    default: return 0;
+    }
+}
+
+/* The same of B, which may be any word where it is the new one. */
+static uint32_t most_b(uint32_t code)
+{
+    return code == POMURICA_EVENT_BANKED_WRITE || code == POMURICA_EVENT_NOTE ? UINT32_MAX : 0;
+}
+
+/* What is wrong with an operand, if anything. */
+static void tell_excess(FILE *out, char operand, uint32_t word, uint32_t most)
+{
+    if (word <= most)
+        return;
+    fprintf(out, ", %c %" PRIu32, operand, word);
+    if (most == 0)
+        fputs(", which must be 0", out);
+    else
+        fprintf(out, ", above %" PRIu32, most);
+}
+
 void tell_event(FILE *out, const uint8_t *step)
 {
-    const uint32_t code = pomurica_get_word(step, STEP_CODE);
-    const uint32_t a = pomurica_get_word(step, STEP_A), b = pomurica_get_word(step, STEP_B);
+    const uint32_t code = pomurica_get_word(step, POMURICA_STEP_CODE);
+    const uint32_t a = pomurica_get_word(step, POMURICA_STEP_A), b = pomurica_get_word(step, POMURICA_STEP_B);
     const bool aborts = code == POMURICA_EVENT_PREFETCH_ABORT || code == POMURICA_EVENT_DATA_ABORT;
+    const bool in_range = a <= most_a(code);
 
     if (event_name(code) == NULL) {
         fprintf(out, "event of code %" PRIu32 ", which is none", code);
         return;
     }
-    fprintf(out, "%s%s", aborts && a & POMURICA_ABORT_EXTERNAL ? "external " : "", event_name(code));
-    tell_operands(out, code, a, b);
+    fprintf(out, "%s%s", aborts && in_range && a & POMURICA_ABORT_EXTERNAL ? "external " : "", event_name(code));
+    if (in_range)
+        tell_operands(out, code, a, b);
+    else if (most_b(code) > 0) /* A says of no place that it takes the word */
+        fprintf(out, " of 0x%08" PRIX32, b);
+    tell_excess(out, 'A', a, most_a(code));
+    tell_excess(out, 'B', b, most_b(code));
+}
+
+void tell_event_words(FILE *out, const uint8_t *step)
+{
+    fprintf(out, "code %" PRIu32 ", A 0x%08" PRIX32 ", B 0x%08" PRIX32, pomurica_get_word(step, POMURICA_STEP_CODE),
+            pomurica_get_word(step, POMURICA_STEP_A), pomurica_get_word(step, POMURICA_STEP_B));
 }
 
 void tell_state(FILE *out, const uint8_t *block)
 {
     const uint32_t cpsr = pomurica_get_word(block, POMURICA_PLACE_CPSR);
-    const uint32_t mode = cpsr & CPSR_MODE;
-    const bool non_secure = pomurica_get_word(block, POMURICA_PLACE_SCR) & SCR_NS;
+    const uint32_t mode = cpsr & POMURICA_CPSR_MODE;
+    const bool non_secure = pomurica_get_word(block, POMURICA_PLACE_SCR) & POMURICA_SCR_NS;
 
     if (mode_name(mode) == NULL)
         fprintf(out, "mode 0x%02" PRIX32 ", which is none", mode);
@@ -208,9 +266,9 @@ void tell_state(FILE *out, const uint8_t *block)
         fprintf(out, "Monitor with NS %d", non_secure);
     else
         fprintf(out, "%s %s", non_secure ? "Non-secure" : "Secure", mode_name(mode));
-    if (cpsr & (CPSR_A | CPSR_I | CPSR_F))
-        fprintf(out, ", masked%s%s%s", cpsr & CPSR_A ? " A" : "", cpsr & CPSR_I ? " I" : "",
-                cpsr & CPSR_F ? " F" : "");
+    if (cpsr & (POMURICA_CPSR_A | POMURICA_CPSR_I | POMURICA_CPSR_F))
+        fprintf(out, ", masked%s%s%s", cpsr & POMURICA_CPSR_A ? " A" : "", cpsr & POMURICA_CPSR_I ? " I" : "",
+                cpsr & POMURICA_CPSR_F ? " F" : "");
     else
         fputs(", nothing masked", out);
 }

@@ -22,11 +22,19 @@ const char *banked_name(uint32_t a);
 /* A part of a Step: enum pomurica_part, but not POMURICA_PART_NONE. */
 const char *part_name(uint32_t part);
 
-/* The verdict, from the first three words of a report or an explanation: "accepted, 9 Steps". */
-void tell_verdict(FILE *out, const uint8_t *report);
+/* Both take the first three words of a report or an explanation. */
 
-/* The event of a Step: "interrupt check, lines IRQ", "banked write of 0x00000007 to SP_usr". */
+/* The verdict: "accepted, 9 Steps: 8 done, 1 refused". */
+void tell_verdict(FILE *out, const uint8_t *trace, const uint8_t *report);
+
+/* The warning that goes with an accepted trace in which no Step was done; NULL for any other. */
+const char *warning_of(const uint8_t *trace, const uint8_t *report);
+
+/* The event of a Step: "interrupt check, lines IRQ"; with what is wrong with it: "interrupt check, A 33, above 31". */
 void tell_event(FILE *out, const uint8_t *step);
+
+/* The words of the event: "code 9, A 0x00000004, B 0x00000000". */
+void tell_event_words(FILE *out, const uint8_t *step);
 
 /* The state of a block: "Non-secure Supervisor, masked I". */
 void tell_state(FILE *out, const uint8_t *block);

@@ -46,7 +46,9 @@ struct picture {
 /* Whether the trace is refused for something else than a Step. */
 static bool stops(const struct shown *shown)
 {
-    return shown->right == shown->judged && pomurica_get_word(shown->explanation, TOLD_NUMBER) != POMURICA_DONE;
+    const uint32_t number = pomurica_get_word(shown->explanation, POMURICA_EXPLANATION_NUMBER);
+
+    return shown->right == shown->judged && number != POMURICA_DONE;
 }
 
 static bool has_flag(const struct row *row)
@@ -119,10 +121,11 @@ static void draw_bars(FILE *out, const struct picture *picture, enum series seri
     fputs("\"/>\n", out);
 }
 
-/* The marks of single Steps as one path: an entry is a triangle, a refusal a cross. */
+/* The marks of single Steps as one path: an entry is a triangle, a refusal a cross.  Neighbours do not touch. */
 static void draw_marks(FILE *out, const struct picture *picture, enum series series, unsigned y)
 {
-    const unsigned size = picture->strip - 6, half = (size + 1) / 2;
+    const unsigned high = picture->strip - 6, wide = picture->width - 2;
+    const unsigned size = high < wide ? high : wide, half = (size + 1) / 2;
     const struct row *const row = picture->row;
 
     if (!has_any(row, series))
@@ -150,11 +153,11 @@ static void name_modes(FILE *out, const struct picture *picture)
     for (uint32_t column = 0; column < row->used; column = end) {
         const char *const name = mode_name(row->columns[column].mode);
         const enum lane lane = lane_of(block_at(row->shown, row->first + column));
-        const bool judged = row->columns[column].counts[OF_LANE + lane] != 0;
+        const bool judged = row->columns[column].counts[lane_series(lane, true)] != 0;
 
-        end = end_of_run(row, judged ? OF_LANE + lane : PALE_OF_LANE + lane, column);
+        end = end_of_run(row, lane_series(lane, judged), column);
         if (name != NULL && (end - column) * picture->width >= LETTER * strlen(name) + LETTER)
-            fprintf(out, "<text class=\"mode%s\" x=\"%u\" y=\"%u\">%s</text>\n", judged ? "" : " dark",
+            fprintf(out, "<text class=\"mode%s\" x=\"%u\" y=\"%u\">%s</text>\n", judged ? "" : " unjudged",
                     column_x(picture, column) + 5, lane_y(picture, lane) + picture->lane / 2 + 4, name);
     }
 }
@@ -179,8 +182,8 @@ static void draw_lanes(FILE *out, const struct picture *picture)
 static void draw_modes(FILE *out, const struct picture *picture)
 {
     for (unsigned lane = 0; lane < picture->row->spread->lanes; lane++) {
-        draw_bars(out, picture, PALE_OF_LANE + lane, lane_y(picture, lane), picture->lane);
-        draw_bars(out, picture, OF_LANE + lane, lane_y(picture, lane), picture->lane);
+        draw_bars(out, picture, lane_series(lane, false), lane_y(picture, lane), picture->lane);
+        draw_bars(out, picture, lane_series(lane, true), lane_y(picture, lane), picture->lane);
     }
     if (is_single(picture->row->spread))
         name_modes(out, picture);
@@ -251,7 +254,8 @@ static void name_events(FILE *out, const struct picture *picture)
     const struct row *const row = picture->row;
 
     for (uint32_t index = row->first; index < row->last; index++) {
-        const char *const name = event_name(pomurica_get_word(row->shown->trace + step_place(index), STEP_CODE));
+        const uint8_t *const step = row->shown->trace + step_place(index);
+        const char *const name = event_name(pomurica_get_word(step, POMURICA_STEP_CODE));
 
         if (name == NULL)
             continue;
@@ -292,12 +296,12 @@ static void flag_wrong_step(FILE *out, const struct picture *picture)
 static void flag_stop(FILE *out, const struct picture *picture, unsigned x)
 {
     const uint8_t *const explanation = picture->row->shown->explanation;
-    const uint32_t number = pomurica_get_word(explanation, TOLD_NUMBER);
+    const uint32_t number = pomurica_get_word(explanation, POMURICA_EXPLANATION_NUMBER);
 
     fprintf(out, "<path class=\"stop\" d=\"M%u %uv%u\"/>\n", x, picture->top, axis_y(picture) - picture->top);
     begin_flag(out, x);
     fprintf(out, "stops here: %" PRIu32 " %s at byte %" PRIu32 "</text>\n", number, pomurica_number_name(number),
-            pomurica_get_word(explanation, TOLD_PLACE));
+            pomurica_get_word(explanation, POMURICA_EXPLANATION_PLACE));
 }
 
 /* Behind the last column: the mode that the last Step left. */
@@ -308,7 +312,7 @@ static void draw_end(FILE *out, const struct picture *picture)
     const unsigned x = column_x(picture, picture->row->used), width = picture->end_width;
 
     fprintf(out, "<rect class=\"%s end\" x=\"%u\" y=\"%u\" width=\"%u\" height=\"%u\"/>\n",
-            STYLES[(shown->right == shown->recorded ? OF_LANE : PALE_OF_LANE) + lane], x + 1, lane_y(picture, lane) + 1,
+            STYLES[lane_series(lane, shown->right == shown->recorded)], x + 1, lane_y(picture, lane) + 1,
             width - 2, picture->lane - 2);
     if (width * 2 > RIGHT) {
         begin_number(out, picture, x + width / 2);
@@ -356,13 +360,24 @@ static void draw_parts(FILE *out, const struct picture *picture)
         draw_links(out, picture);
 }
 
+/* Where the link beside the verdict leads: a window that is too narrow for the row scrolls to the wrong Step's column. */
+static void mark_wrong_step(FILE *out, const struct picture *picture)
+{
+    const unsigned middle = step_x(picture, picture->row->shown->right) + picture->width / 2;
+
+    fprintf(out, "<span id=\"wrong\" style=\"left: calc(100%% * %u / %d)\"></span>\n", middle, WIDTH);
+}
+
 void draw_picture(FILE *out, const struct row *row)
 {
     const struct picture picture = measure(row);
     const unsigned axes = picture.width >= NAMING ? 2 : 1;
 
-    fprintf(out, "<svg%s role=\"img\" viewBox=\"0 0 %d %u\" aria-label=\"modes, Step %" PRIu32 " and on\">\n",
-            has_wrong_step(row) ? " id=\"wrong\"" : "", WIDTH, axis_y(&picture) + axes * AXIS, row->first + 1);
+    fputs("<div class=\"row\">\n", out);
+    if (has_wrong_step(row))
+        mark_wrong_step(out, &picture);
+    fprintf(out, "<svg role=\"img\" viewBox=\"0 0 %d %u\" aria-label=\"modes, Step %" PRIu32 " and on\">\n", WIDTH,
+            axis_y(&picture) + axes * AXIS, row->first + 1);
     draw_parts(out, &picture);
-    fputs("</svg>\n", out);
+    fputs("</svg>\n</div>\n", out);
 }

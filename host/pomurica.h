@@ -1,17 +1,25 @@
 /*
  * pomurica.h: the exception rules of an Arm core on which all four Exception
  * levels use AArch32, one step at a time, and a checker of traces of steps.
- * C11 and C++.
+ * C11 and C++11.
  *
  * A state block of 176 bytes holds the core's banked and system registers, an
  * event is something that happens to it, and a step says what the core does.
  * A trace is what a unit records of its steps; the checker accepts it exactly
  * when the rules can have made it.
  *
- * Link with libconsole.a.  The three functions are proved: for every input they
- * return, give the one answer that the rules give, and write nothing but what
- * is said here.  They keep nothing between calls, take no memory and may be
- * called from several threads, each with buffers of its own.
+ * The three functions are proved: for every input they return, give the one
+ * answer that the rules give, and write nothing but what is said here.  They
+ * keep nothing between calls, take no memory and may be called from several
+ * threads, each with buffers of its own.  A buffer may lie at any address: it
+ * is read and written as bytes, and needs no alignment.
+ *
+ * The archive libconsole.a is x86-64 code for Linux: ELF, the System V calling
+ * convention, position independent, for any x86-64 processor.  It defines the
+ * three functions and no other name, calls nothing but the C library's memcpy,
+ * and stands behind the objects that use it:
+ *
+ *     cc -I host program.c libconsole.a
  *
  * Outside the proof, and so up to the caller:
  *   - a pointer and its length name memory that is there.  A length of 0 goes
@@ -39,6 +47,35 @@ enum {
     POMURICA_START_SIZE = 184,
     POMURICA_STEP_SIZE = 200,
     POMURICA_END_SIZE = 8
+};
+
+/*
+ * A trace is one Start, n Steps and one End, without a gap.  Each record is
+ * little-endian words, and its first is its head: its own length in bytes in
+ * bits 15-0, its kind in bits 31-16.
+ */
+enum pomurica_kind {
+    POMURICA_KIND_START = 1,
+    POMURICA_KIND_STEP = 2,
+    POMURICA_KIND_END = 3
+};
+
+/* The heads: what a record's first word is. */
+#define POMURICA_START_HEAD UINT32_C(0x000100B8)
+#define POMURICA_STEP_HEAD UINT32_C(0x000200C8)
+#define POMURICA_END_HEAD UINT32_C(0x00030008)
+
+/* Where the words of a record lie, counted in words from 0. */
+enum pomurica_record_word {
+    POMURICA_RECORD_HEAD = 0,
+    POMURICA_RECORD_COUNT = 1, /* of a Start and of an End: n, at most 65,535 */
+    POMURICA_START_BLOCK = 2,  /* the block before the first Step, 44 words; it need not be good */
+    POMURICA_STEP_CODE = 1,    /* the event */
+    POMURICA_STEP_A = 2,
+    POMURICA_STEP_B = 3,
+    POMURICA_STEP_NUMBER = 4,  /* its answer */
+    POMURICA_STEP_VALUE = 5,
+    POMURICA_STEP_BLOCK = 6    /* the block after it, 44 words */
 };
 
 /* The most Steps that a trace may have. */
@@ -161,6 +198,45 @@ enum pomurica_place {
     POMURICA_PLACES = 44
 };
 
+/* Bits of CPSR and of an SPSR.  Bits 24-21 are 0 in a good block's CPSR. */
+#define POMURICA_CPSR_N (UINT32_C(1) << 31)
+#define POMURICA_CPSR_Z (UINT32_C(1) << 30)
+#define POMURICA_CPSR_C (UINT32_C(1) << 29)
+#define POMURICA_CPSR_V (UINT32_C(1) << 28)
+#define POMURICA_CPSR_Q (UINT32_C(1) << 27)
+#define POMURICA_CPSR_IT_1_0 (UINT32_C(3) << 25)
+#define POMURICA_CPSR_BITS_24_21 (UINT32_C(15) << 21)
+#define POMURICA_CPSR_IL (UINT32_C(1) << 20)
+#define POMURICA_CPSR_GE (UINT32_C(15) << 16)
+#define POMURICA_CPSR_IT_7_2 (UINT32_C(63) << 10)
+#define POMURICA_CPSR_E (UINT32_C(1) << 9)
+#define POMURICA_CPSR_A (UINT32_C(1) << 8)
+#define POMURICA_CPSR_I (UINT32_C(1) << 7)
+#define POMURICA_CPSR_F (UINT32_C(1) << 6)
+#define POMURICA_CPSR_T (UINT32_C(1) << 5)
+#define POMURICA_CPSR_MODE UINT32_C(31)
+
+/* The bits of SCR, HCR, SCTLR (of both states) and HSCTLR that steer the rules; no other bit of them does. */
+#define POMURICA_SCR_NS (UINT32_C(1) << 0)
+#define POMURICA_SCR_IRQ (UINT32_C(1) << 1)
+#define POMURICA_SCR_FIQ (UINT32_C(1) << 2)
+#define POMURICA_SCR_EA (UINT32_C(1) << 3)
+#define POMURICA_SCR_FW (UINT32_C(1) << 4)
+#define POMURICA_SCR_AW (UINT32_C(1) << 5)
+
+#define POMURICA_HCR_FMO (UINT32_C(1) << 3)
+#define POMURICA_HCR_IMO (UINT32_C(1) << 4)
+#define POMURICA_HCR_AMO (UINT32_C(1) << 5)
+#define POMURICA_HCR_VF (UINT32_C(1) << 6)
+#define POMURICA_HCR_VI (UINT32_C(1) << 7)
+#define POMURICA_HCR_VA (UINT32_C(1) << 8)
+#define POMURICA_HCR_TSC (UINT32_C(1) << 19)
+#define POMURICA_HCR_TGE (UINT32_C(1) << 27)
+
+#define POMURICA_SCTLR_V (UINT32_C(1) << 13)
+#define POMURICA_SCTLR_EE (UINT32_C(1) << 25) /* of HSCTLR too */
+#define POMURICA_SCTLR_TE (UINT32_C(1) << 30) /* of HSCTLR too */
+
 /* Which exception an entry was: bits 31-16 of its value. */
 enum pomurica_which {
     POMURICA_WHICH_SYNCHRONOUS = 0,
@@ -170,6 +246,21 @@ enum pomurica_which {
     POMURICA_WHICH_VIRTUAL_SERROR = 4,
     POMURICA_WHICH_VIRTUAL_FIQ = 5,
     POMURICA_WHICH_VIRTUAL_IRQ = 6
+};
+
+/* Where the words of an answer, a report and an explanation lie, for pomurica_get_word. */
+enum pomurica_told_word {
+    POMURICA_ANSWER_NUMBER = 0,
+    POMURICA_ANSWER_VALUE = 1,
+    POMURICA_REPORT_NUMBER = 0,
+    POMURICA_REPORT_PLACE = 1,
+    POMURICA_REPORT_STEPS = 2,
+    POMURICA_EXPLANATION_NUMBER = 0, /* the first three are the report's */
+    POMURICA_EXPLANATION_PLACE = 1,
+    POMURICA_EXPLANATION_STEPS = 2,
+    POMURICA_EXPLANATION_PART = 3,   /* enum pomurica_part */
+    POMURICA_EXPLANATION_FOUND = 4,
+    POMURICA_EXPLANATION_DUE = 5
 };
 
 /*
@@ -232,7 +323,7 @@ enum pomurica_part {
 uint32_t pomurica_explain(const uint8_t *trace, size_t trace_len,
                           uint8_t *explanation, size_t explanation_len);
 
-/* The word at a place of a block, or of an answer, a report or an explanation, counted from 0. */
+/* The word at a place, counted in words from 0, of a block, a record, an answer, a report or an explanation. */
 static inline uint32_t pomurica_get_word(const uint8_t *bytes, size_t place)
 {
     const uint8_t *word = bytes + 4 * place;
@@ -241,7 +332,7 @@ static inline uint32_t pomurica_get_word(const uint8_t *bytes, size_t place)
            (uint32_t)word[3] << 24;
 }
 
-/* Puts a word at a place of a block. */
+/* Puts a word at a place, counted in words from 0. */
 static inline void pomurica_put_word(uint8_t *bytes, size_t place, uint32_t value)
 {
     uint8_t *word = bytes + 4 * place;

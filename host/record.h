@@ -11,28 +11,6 @@
 #include <stdint.h>
 #include <string.h>
 
-/* Where the words of a record lie, counted in words from its head. */
-enum {
-    RECORD_HEAD = 0,
-    RECORD_COUNT = 1, /* of a Start or an End */
-    STEP_CODE = 1, STEP_A = 2, STEP_B = 3, STEP_NUMBER = 4, STEP_VALUE = 5, STEP_BLOCK = 6
-};
-
-/* The kinds of a record. */
-enum {
-    START_KIND = 1, STEP_KIND = 2, END_KIND = 3
-};
-
-/* Where the words of an explanation lie. */
-enum {
-    TOLD_NUMBER, TOLD_PLACE, TOLD_STEPS, TOLD_PART, TOLD_FOUND, TOLD_DUE
-};
-
-/* Bits of CPSR and SCR that say in which state a core is. */
-enum {
-    CPSR_F = 1 << 6, CPSR_I = 1 << 7, CPSR_A = 1 << 8, CPSR_MODE = 0x1F, SCR_NS = 1
-};
-
 /* The first byte of a Step; they are counted from 0 here, and from 1 where a person reads it. */
 static inline uint32_t step_place(uint32_t index)
 {
@@ -47,7 +25,17 @@ static inline const uint8_t *block_before(const uint8_t *step)
 
 static inline const uint8_t *block_after(const uint8_t *step)
 {
-    return step + 4 * STEP_BLOCK;
+    return step + 4 * POMURICA_STEP_BLOCK;
+}
+
+/* How many of the first Steps of a trace were done, as their records have it; the others were refused. */
+static inline uint32_t count_done(const uint8_t *trace, uint32_t steps)
+{
+    uint32_t done = 0;
+
+    for (uint32_t index = 0; index < steps; index++)
+        done += pomurica_get_word(trace + step_place(index), POMURICA_STEP_NUMBER) == POMURICA_DONE;
+    return done;
 }
 
 /* What came of an event. */
@@ -74,8 +62,9 @@ struct due {
 static inline void find_due(const uint8_t *step, struct due *due)
 {
     memcpy(due->block, block_before(step), sizeof due->block);
-    pomurica_step(due->block, sizeof due->block, pomurica_get_word(step, STEP_CODE), pomurica_get_word(step, STEP_A),
-                  pomurica_get_word(step, STEP_B), due->answer, sizeof due->answer);
+    pomurica_step(due->block, sizeof due->block, pomurica_get_word(step, POMURICA_STEP_CODE),
+                  pomurica_get_word(step, POMURICA_STEP_A), pomurica_get_word(step, POMURICA_STEP_B),
+                  due->answer, sizeof due->answer);
 }
 
 #endif

@@ -1,6 +1,6 @@
 /*
- * A trace in words for a person: what was wrong with it, and what its Steps
- * were.  Everything that is judged here is judged by pomurica.h's functions;
+ * A trace in words for a person: what is to be said of its verdict, and what
+ * its Steps were.  Everything that is judged here is judged by pomurica.h's functions;
  * this only finds words for it.
  */
 #ifndef TELL_H
@@ -12,8 +12,11 @@
 
 /* Both take what pomurica_explain says of the trace. */
 
-/* Tells what was due and what was there, on lines of their own; nothing for an accepted trace. */
-void tell_refusal(FILE *out, const uint8_t *trace, size_t length, const uint8_t *explanation);
+/*
+ * Tells on lines of their own, of a refused trace, what was due and what was
+ * there; of an accepted one the warning that goes with it, if one does.
+ */
+void tell_explanation(FILE *out, const uint8_t *trace, size_t length, const uint8_t *explanation);
 
 /* Tells each Step that was found right, and the first wrong one, a line each. */
 void tell_steps(FILE *out, const uint8_t *trace, const uint8_t *explanation);

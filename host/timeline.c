@@ -20,6 +20,12 @@ static void tell_columns(FILE *out, const struct spread *spread)
                 spread->per_column);
 }
 
+/* The style of the legend and of the rows, more than their own, where several Steps share a column. */
+static const char *shared_style(const struct spread *spread)
+{
+    return is_single(spread) ? "" : " shared";
+}
+
 /* One sign of the legend; the caller ends the item. */
 static void begin_sign(FILE *out, const char *shape)
 {
@@ -37,7 +43,7 @@ static void tell_counted(FILE *out, const char *shape, const char *what, uint32_
 
 static void tell_signs(FILE *out, const struct shown *shown, const struct spread *spread)
 {
-    fputs("<ul class=\"legend\">\n", out);
+    fprintf(out, "<ul class=\"legend%s\">\n", shared_style(spread));
     tell_counted(out, is_single(spread) ? "<path class=\"entry\" d=\"M8 3l4 8h-8z\"/>"
                                         : "<path class=\"entry\" d=\"M5 1h6v12h-6z\"/>",
                  "entries, which took an exception", count_right(shown, OUTCOME_ENTRY));
@@ -60,7 +66,7 @@ static void draw_rows(FILE *out, const struct shown *shown, const struct spread 
 {
     struct row row;
 
-    fputs("<div class=\"rows\">\n", out);
+    fprintf(out, "<div class=\"rows%s\">\n", shared_style(spread));
     begin_rows(&row, shown, spread);
     draw_picture(out, &row);
     while (!is_last_row(&row)) {
@@ -73,7 +79,7 @@ static void draw_rows(FILE *out, const struct shown *shown, const struct spread 
 void draw_timeline(FILE *out, const struct shown *shown)
 {
     fputs("<section class=\"timeline\">\n<h2>Modes by Step</h2>\n", out);
-    if (pomurica_get_word(shown->explanation, TOLD_PLACE) == 0) {
+    if (pomurica_get_word(shown->explanation, POMURICA_EXPLANATION_PLACE) == 0) {
         fputs("<p>There is nothing to draw: the Start itself is refused.</p>\n", out);
     } else {
         const struct spread spread = choose_spread(shown);

@@ -49,6 +49,14 @@ static struct trace start(uint32_t cpsr, uint32_t scr, uint32_t hcr)
     return t;
 }
 
+/* The same with a block of zeros, whose mode is none. */
+static struct trace start_of_zeros(void)
+{
+    struct trace t = { 0 };
+    t.length = POMURICA_START_SIZE;
+    return t;
+}
+
 /* One event through the proved step, recorded as it went. */
 static void step(struct trace *t, uint32_t code, uint32_t a, uint32_t b)
 {
@@ -102,8 +110,7 @@ static struct trace honest(void)
 
 int main(void)
 {
-    struct trace t = start(0, 0, 0);
-    memset(t.bytes, 0, sizeof t.bytes);
+    struct trace t = start_of_zeros();
     finish(&t);
     write_file("shortest.trace", &t);
 
@@ -150,6 +157,13 @@ int main(void)
     step(&t, POMURICA_EVENT_SVC, 0, 0);
     finish(&t);
     write_file("start-not-good.trace", &t);
+
+    t = start_of_zeros(); /* honest, and still each event is refused with BAD_MODE */
+    step(&t, POMURICA_EVENT_SVC, 0, 0);
+    step(&t, POMURICA_EVENT_INTERRUPT_CHECK, POMURICA_LINE_IRQ, 0);
+    step(&t, POMURICA_EVENT_NOTE, POMURICA_PLACE_CPSR, POMURICA_MODE_SUPERVISOR);
+    finish(&t);
+    write_file("nothing-done.trace", &t);
 
     memset(&t, 0, sizeof t);
     t.length = 300;

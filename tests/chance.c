@@ -7,6 +7,15 @@ const uint8_t MODES[MODE_COUNT] = {
     MODE_ABORT, MODE_HYP, MODE_UNDEFINED, MODE_SYSTEM
 };
 
+const uint32_t LARGEST_A[CODES] = {
+    [CODE_PREFETCH_ABORT] = 3,
+    [CODE_DATA_ABORT] = 3,
+    [CODE_INTERRUPT_CHECK] = 31,
+    [CODE_BANKED_READ] = 63,
+    [CODE_BANKED_WRITE] = 63,
+    [CODE_NOTE] = PLACES - 1,
+};
+
 /* SplitMix64. */
 uint32_t any_word(struct chance *chance)
 {
@@ -25,6 +34,12 @@ uint32_t any_below(struct chance *chance, uint32_t limit)
 bool one_in(struct chance *chance, uint32_t times)
 {
     return any_below(chance, times) == 0;
+}
+
+/* A word of one bit. */
+static uint32_t any_bit(struct chance *chance)
+{
+    return UINT32_C(1) << any_below(chance, 32);
 }
 
 void any_bytes(struct chance *chance, uint8_t *bytes, size_t length)
@@ -126,6 +141,25 @@ static struct event any_note(struct chance *chance, const uint8_t *block)
     return note;
 }
 
+/* A note that changes one thing of a word that steers, and often makes a block that is not good. */
+static struct event spoiling_note(struct chance *chance, const uint8_t *block)
+{
+    const uint32_t cpsr = get(block, CPSR);
+
+    switch (any_below(chance, 6)) {
+    case 0:
+        return (struct event){ CODE_NOTE, SCR, get(block, SCR) ^ SCR_NS };
+    case 1:
+        return (struct event){ CODE_NOTE, HCR, get(block, HCR) ^ HCR_TGE };
+    case 2:
+        return (struct event){ CODE_NOTE, CPSR, cpsr ^ UINT32_C(1) << (21 + any_below(chance, 4)) };
+    case 3:
+        return (struct event){ CODE_NOTE, CPSR, (cpsr & ~(uint32_t)CPSR_MODE) | any_below(chance, CPSR_MODE + 1) };
+    default:
+        return (struct event){ CODE_NOTE, CPSR, any_cpsr(chance, MODES[any_below(chance, MODE_COUNT)]) };
+    }
+}
+
 struct event event_of(struct chance *chance, uint32_t code, const uint8_t *block)
 {
     struct event event = { code, 0, 0 };
@@ -133,18 +167,16 @@ struct event event_of(struct chance *chance, uint32_t code, const uint8_t *block
     switch (code) {
     case CODE_PREFETCH_ABORT:
     case CODE_DATA_ABORT:
-        event.a = any_below(chance, 4);
+    case CODE_BANKED_READ:
+        event.a = any_below(chance, LARGEST_A[code] + 1);
         break;
     case CODE_INTERRUPT_CHECK:
-        event.a = any_below(chance, 32);
+        event.a = any_below(chance, LARGEST_A[code] + 1);
         if (one_in(chance, 3)) /* with no physical one before it, a virtual one is taken */
             event.a &= LINE_VFIQ | LINE_VIRQ;
         break;
-    case CODE_BANKED_READ:
-        event.a = any_below(chance, 64);
-        break;
     case CODE_BANKED_WRITE:
-        event.a = any_below(chance, 64);
+        event.a = any_below(chance, LARGEST_A[code] + 1);
         event.b = any_word(chance);
         break;
     case CODE_NOTE:
@@ -155,23 +187,37 @@ struct event event_of(struct chance *chance, uint32_t code, const uint8_t *block
     return event;
 }
 
+/* An A at the end of its range: the largest, one beside it, or the largest with a bit more. */
+static uint32_t a_near_largest(struct chance *chance, uint32_t code)
+{
+    const uint32_t largest = code < CODES ? LARGEST_A[code] : 0;
+
+    switch (any_below(chance, 4)) {
+    case 0: return largest - 1;
+    case 1: return largest;
+    case 2: return largest + 1;
+    default: return largest | any_bit(chance);
+    }
+}
+
 /* An event that is mostly none: an unknown code, or an operand just or far out of its range. */
 static struct event odd_event(struct chance *chance, const uint8_t *block)
 {
-    struct event event = event_of(chance, any_below(chance, 16), block);
+    struct event event = event_of(chance, any_below(chance, CODES + 1), block);
 
-    switch (any_below(chance, 4)) {
+    switch (any_below(chance, 8)) {
     case 0:
-        event.code = any_word(chance);
+        event.code = one_in(chance, 2) ? any_word(chance) : event.code | any_bit(chance);
         break;
     case 1:
-        event.a = any_below(chance, 70);
-        break;
     case 2:
-        event.a = any_word(chance);
+    case 3:
+        event.a = a_near_largest(chance, event.code);
         break;
     default:
-        event.b = any_word(chance);
+        event.b = any_bit(chance);
+        if (one_in(chance, 8)) /* and all bits above it: the largest word of all is among these */
+            event.b = 0u - event.b;
         break;
     }
     return event;
@@ -179,9 +225,11 @@ static struct event odd_event(struct chance *chance, const uint8_t *block)
 
 struct event any_event(struct chance *chance, const uint8_t *block)
 {
-    if (one_in(chance, 16))
+    if (one_in(chance, 10))
         return odd_event(chance, block);
     if (one_in(chance, 8)) /* the event with the most cases */
         return event_of(chance, CODE_INTERRUPT_CHECK, block);
+    if (one_in(chance, 32))
+        return spoiling_note(chance, block);
     return event_of(chance, 1 + any_below(chance, CODE_NOTE), block);
 }

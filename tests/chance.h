@@ -23,12 +23,15 @@ struct event {
 #define MODE_COUNT 9
 extern const uint8_t MODES[MODE_COUNT];
 
+/* The largest A of each of the twelve codes; 0 where the event has none. */
+extern const uint32_t LARGEST_A[];
+
 uint32_t any_word(struct chance *chance);
 uint32_t any_below(struct chance *chance, uint32_t limit);
 bool one_in(struct chance *chance, uint32_t times);
 void any_bytes(struct chance *chance, uint8_t *bytes, size_t length);
 
-/* A block of any words that is good. */
+/* A block of any words that is good.  The figures of bench/ are counted on such blocks, with events of event_of. */
 void good_block(struct chance *chance, uint8_t *block);
 
 /* A block that is mostly good, sometimes almost, sometimes of any words. */

@@ -16,8 +16,6 @@
 #include "pomurica.h"
 #include "traces.h"
 
-#include "../bench/speed.h"
-#include "../second/second.h"
 #include "../second/words.h"
 
 #include <inttypes.h>
@@ -29,6 +27,10 @@
 #ifndef OTHER_CHECK
 #define OTHER_CHECK second_check
 #endif
+
+typedef uint32_t check_function(const uint8_t *, size_t, uint8_t *, size_t);
+
+check_function OTHER_CHECK;
 
 /* Unless the arguments say otherwise. */
 #define THOUSANDS 40
@@ -49,8 +51,6 @@ struct call {
     bool guards_kept, trace_kept;
 };
 
-typedef uint32_t check_function(const uint8_t *, size_t, uint8_t *, size_t);
-
 static void call_check(check_function *judge, const uint8_t *trace, size_t length,
                        size_t report_len, struct call *call)
 {
@@ -63,21 +63,28 @@ static void call_check(check_function *judge, const uint8_t *trace, size_t lengt
     call->trace_kept = memcmp(lent_trace, trace, length) == 0;
 }
 
+/* What two calls on one trace do not have alike; NULL for nothing. */
+static const char *difference(const struct call *one, const struct call *other, size_t report_len)
+{
+    if (one->number != other->number)
+        return "the numbers differ";
+    if (memcmp(bytes_of(&one->report), bytes_of(&other->report), report_len) != 0)
+        return "the reports differ";
+    if (!one->guards_kept || !other->guards_kept)
+        return "a guard byte changed";
+    return one->trace_kept && other->trace_kept ? NULL : "the trace changed";
+}
+
 /* Whether both checkers give the same; ours is then what the one behind the header gave. */
 static bool agree(const uint8_t *trace, size_t length, size_t report_len, struct call *ours)
 {
     struct call theirs;
-    bool right;
+    const char *what;
 
     call_check(pomurica_check, trace, length, report_len, ours);
     call_check(OTHER_CHECK, trace, length, report_len, &theirs);
-    right = check(ours->number == theirs.number, "number %" PRIu32 ", the other %" PRIu32,
-                  ours->number, theirs.number);
-    right &= check(memcmp(bytes_of(&ours->report), bytes_of(&theirs.report), report_len) == 0,
-                   "the reports differ");
-    right &= check(ours->guards_kept && theirs.guards_kept, "a guard byte changed");
-    right &= check(ours->trace_kept && theirs.trace_kept, "the trace changed");
-    return right;
+    what = difference(ours, &theirs, report_len);
+    return check(what == NULL, "%s; number %" PRIu32 ", the other %" PRIu32, what, ours->number, theirs.number);
 }
 
 /* Both give what is expected. */
@@ -156,7 +163,7 @@ static void compare_random(struct chance *chance, unsigned long count, uint8_t *
 
         if (compare(trace, length, &expected, &ours))
             met[damage][ours.number]++;
-        else
+        else if (is_telling())
             printf("        %s, %zu bytes, made from seed %" PRIu64 "\n", DAMAGE_NAMES[damage],
                    length, seed);
     }

@@ -5,8 +5,11 @@ COMMAND runs the console. FOLDER holds traces, honest and damaged, and LINES wha
 program runs: emulated; plain, and then it is tried with little memory too; or sanitized, and then a few runs look for leaks
 too. Ends with `N passed, M failed`.
 """
+import itertools
 import os
 import pty
+import random
+import re
 import resource
 import struct
 import subprocess
@@ -14,11 +17,14 @@ import sys
 import tempfile
 
 sys.dont_write_bytecode = True
+from names import shown  # noqa: E402
 from page import Page  # noqa: E402
 from records import (  # noqa: E402
-    BLOCK_SIZE, END_SIZE, SAMPLES, SHORTEST, START_SIZE, STEP_KIND, STEP_SIZE, long_trace, start_record)
+    BLOCK_SIZE, END_SIZE, SAMPLES, SHORTEST, START_SIZE, STEP_KIND, STEP_SIZE, accepted, long_trace, start_record)
+from status import differing_fields  # noqa: E402
 
 USAGE = b'usage: console'
+WARNING = b'  warning: no Step was done, so the trace shows nothing of what the unit runs\n'
 
 KIND, FOLDER, LINES, COMMAND = sys.argv[1], sys.argv[2], sys.argv[3], sys.argv[4:]
 results = []
@@ -64,6 +70,11 @@ def on_terminal(command):
     return done.wait(), written
 
 
+def read(name):
+    with open(name, 'rb') as file:
+        return file.read()
+
+
 def write(name, content):
     with open(name, 'wb') as file:
         file.write(content)
@@ -72,13 +83,13 @@ def write(name, content):
 
 def try_verdicts():
     good, cut = write('good', SHORTEST), write('cut', SHORTEST[:-1])
-    accepted, refused = b'good: accepted, 0 Steps\n', b'cut: refused 8 SHORT at byte %d after 0 Steps\n' % START_SIZE
+    good_line, cut_line = b'good: accepted, 0 Steps\n', b'cut: refused 8 SHORT at byte %d after 0 Steps\n' % START_SIZE
     missing = b'console: missing: No such file or directory\n'
-    expect_run('accepted', [good], 0, accepted)
-    expect_run('refused', [cut], 1, refused)
-    expect_run('one refused of two', [cut, good], 1, refused + accepted)
+    expect_run('accepted', [good], 0, good_line)
+    expect_run('refused', [cut], 1, cut_line)
+    expect_run('one refused of two', [cut, good], 1, cut_line + good_line)
     expect_run('a file that is not there; the others are judged, and 2 wins', [cut, 'missing', good], 2,
-               refused + accepted, missing)
+               cut_line + good_line, missing)
     expect_run('--quiet', ['--quiet', good, cut], 1, b'')
     expect_run('--quiet still names a file that cannot be read', ['--quiet', good, 'missing'], 2, b'', missing)
 
@@ -107,9 +118,6 @@ def try_input():
     with open(write('huge', SHORTEST), 'r+b') as file:
         file.truncate(400 << 20)
     expect_run('a file of 400 megabytes', ['huge'], 1, b'huge: refused 12 TRAILING at byte %d after 0 Steps\n' % len(SHORTEST))
-    write('forged\ngood: accepted, 0 Steps', b'')
-    expect_run('a name with a line end in it', ['forged\ngood: accepted, 0 Steps'], 1,
-               b'forged?good: accepted, 0 Steps: refused 8 SHORT at byte 0 after 0 Steps\n')
     if os.getuid() == 0:
         return  # root may read every file
     os.chmod(write('locked', SHORTEST), 0)
@@ -143,36 +151,72 @@ def try_leaks():
 
 
 def parted(out):
-    """The lines of verdicts, and for each how many lines are told under it."""
-    verdicts, told = b'', []
+    """The lines of verdicts, and for each the lines that are told under it."""
+    verdicts, told = [], []
     for line in out.splitlines(keepends=True):
         if line.startswith(b'  '):
-            told[-1] += 1
+            told[-1].append(line)
         else:
-            verdicts += line
-            told.append(0)
+            verdicts.append(line)
+            told.append([])
     return verdicts, told
 
 
 def try_telling():
     expect_run('--explain', ['--explain', 'good', 'cut'], 1,
-               b'good: accepted, 0 Steps\ncut: refused 8 SHORT at byte %d after 0 Steps\n'
-               b'  the End of %d bytes was due; only %d are there\n' % (START_SIZE, END_SIZE, END_SIZE - 1))
+               b'good: accepted, 0 Steps\n%bcut: refused 8 SHORT at byte %d after 0 Steps\n'
+               b'  the End of %d bytes was due; only %d are there\n' % (WARNING, START_SIZE, END_SIZE, END_SIZE - 1))
     expect_run('--explain --quiet', ['--explain', '--trace', '--quiet', 'cut'], 1, b'')
     expect_run('--trace', ['--trace', 'good'], 0, b'good: accepted, 0 Steps\n')
 
 
+def due_lines():
+    """The lines for the traces of the folder; how many Steps of an accepted one were done is counted here."""
+    for line in read(LINES).decode().splitlines():
+        name, verdict = line.split(': ')
+        yield (line + accepted(read(name)).removeprefix(verdict) if verdict.startswith('accepted') else line).encode() + b'\n'
+
+
+def wrong_fields(told):
+    """The lines of status words in which the fields that differ are not told, or others are; and how many were looked at."""
+    lines = [line.decode() for lines in told for line in lines if re.match(rb'    (CPSR|SPSR_\w+) ', line)]
+    parts = (line.split(maxsplit=5) for line in lines)
+    due = [f'    {name} {due} due, {found} found: {differing_fields(int(found, 16), "due", int(due, 16))}\n'
+           for name, due, _, found, *_ in parts]
+    return [pair for pair in zip(lines, due) if pair[0] != pair[1]], len(lines)
+
+
 def try_folder():
-    names = sorted(os.listdir(FOLDER))
-    with open(LINES, 'rb') as file:
-        lines = file.read()
-    status, out, err = run(*[os.path.join(FOLDER, name) for name in names])
-    wrong = [pair for pair in zip(out.splitlines(), lines.splitlines()) if pair[0] != pair[1]]
-    expect(f'{len(names)} traces, honest and damaged', status == 1 and out == lines and err == b'', (status, err, wrong[:3]))
-    status, out, err = run('--explain', '--trace', *[os.path.join(FOLDER, name) for name in names])
+    names = [os.path.join(FOLDER, name) for name in sorted(os.listdir(FOLDER))]
+    lines = list(due_lines())
+    status, out, err = run(*names)
+    wrong = [pair for pair in zip(out.splitlines(keepends=True), lines) if pair[0] != pair[1]]
+    expect(f'{len(names)} traces, honest and damaged', status == 1 and out == b''.join(lines) and err == b'',
+           (status, err, wrong[:3]))
+    status, out, err = run('--explain', '--trace', *names)
     verdicts, told = parted(out)
     expect('the same, explained: the same verdicts', status == 1 and verdicts == lines and err == b'', (status, err))
-    expect('each refusal is explained', all(told[i] for i, line in enumerate(verdicts.splitlines()) if b': refused' in line))
+    expect('each refusal is explained', all(told[i] for i, line in enumerate(lines) if b': refused' in line))
+    warned = [WARNING in under for under in told]
+    due = [b'accepted, 0 Steps' in line or b': 0 done, ' in line for line in lines]
+    expect(f'{sum(due)} accepted traces in which nothing was done, and no others, are warned of', warned == due and any(due))
+    wrong, count = wrong_fields(told)
+    expect(f'{count} status words that differ, by their fields', not wrong and count > 0, wrong[:3])
+
+
+def try_flips():
+    """What a single bit that a transfer turns over comes to, for every bit of a sample: the README has the figures."""
+    honest, answers = read(os.path.join(SAMPLES, 'honest.trace')), {}
+    os.mkdir('flips')
+    names = [write(f'flips/{bit}', (int.from_bytes(honest, 'little') ^ 1 << bit).to_bytes(len(honest), 'little'))
+             for bit in range(8 * len(honest))]
+    for line in run(*names)[1].splitlines():
+        answer = re.search(rb': (accepted|refused \d+)', line)[1].decode()
+        answers[answer] = answers.get(answer, 0) + 1
+    said = (f'Of the {len(names):,} bits of `samples/honest.trace`, turned over one at a time, {answers["refused 11"]:,} end in '
+            f'11 WRONG_STEP; {answers["accepted"]} leave a trace that is accepted')
+    readme = ' '.join(read(os.path.join(SAMPLES, '../README.md')).decode().split())
+    expect('every bit of a trace turned over, and the figures of the README', said in readme, (said, answers))
 
 
 def compare_telling(page, lines):
@@ -184,26 +228,26 @@ def compare_telling(page, lines):
              'refusal': sum('; refused' in line for line in told if not line.endswith('WRONG'))}
     if listed != told or list(page.told_differences()) != differences:
         page.fault(('Steps', listed, told, differences))
+    warnings = [line.strip() for line in lines if line.startswith('  warning: ')]
+    if page.warnings != warnings or ('warned' in page.header) != bool(warnings):
+        page.fault(('warnings', page.header, page.warnings, warnings))
     drawn = list(page.drawn_lanes())
     if 'A column is one Step' in page.text and (page.marks != marks or drawn != list(page.listed_lanes())):
         page.fault(('timeline', page.marks, marks, drawn))
 
 
-def page_of(name, shown=None, **options):
+def page_of(name, **options):
     """The page of a file, with its faults: it has to say what the console says in lines, and nothing else."""
-    shown = name if shown is None else shown
     status, out, err = run('--html', name, **options)
     line_status, lines, line_err = run('--explain', '--trace', name, **options)
-    line, *lines = lines.decode(errors='replace').rstrip('\n').split('\n')
+    line, *lines = lines.decode().rstrip('\n').split('\n')
     page = Page(out)
-    said = f'{shown}: {line.rpartition(": ")[2]}'
-    if (status, err + line_err, page.title, page.verdict) != (line_status, b'', said, said):
-        page.faults.insert(0, (status, err + line_err, page.title, page.verdict))
+    if (status, err + line_err, page.title, page.verdict) != (line_status, b'', line, line):
+        page.faults.insert(0, (status, err + line_err, page.title, page.verdict, line))
         return page
     compare_telling(page, lines)
     if page.steps:
-        with open(name, 'rb') as file:
-            page.faults += page.wrong_changes(file.read())
+        page.faults += page.wrong_changes(read(name))
     return page
 
 
@@ -230,6 +274,13 @@ def try_pages():
     expect_page('the page of a text', page_of('text'), 'the Start was due', steps=0)
 
 
+def limit_steps():
+    """Steps of every code and of none, with operands, answer numbers and values at their limits and right behind them."""
+    for code, a, (number, value) in itertools.product(
+            range(14), (3, 4, 31, 32, 43, 44, 63, 64), ((0, 6 << 16), (0, 7 << 16), (12, 0), (13, 0))):
+        yield struct.pack('<HHIIIII', STEP_SIZE, STEP_KIND, code, a, 0, number, value) + bytes(BLOCK_SIZE)
+
+
 def try_unjudged():
     """Steps behind a wrong one are shown as far as they go."""
     step = (struct.pack('<HH', STEP_SIZE, STEP_KIND) + b'"><script>&' * 20)[:STEP_SIZE]
@@ -240,6 +291,9 @@ def try_unjudged():
     expect_page('the same, cut', page_of('text'), steps=4, wrong=['1'])
     write('text', start_record(3, start) + 4 * step)
     expect_page('the same, with more Steps than it counts', page_of('text'), steps=3, wrong=['1'])
+    limits = list(limit_steps())
+    write('limits', start_record(1 + len(limits), start) + step + b''.join(limits))
+    expect_page('Steps at the limits of what they may have', page_of('limits'), steps=1 + len(limits), wrong=['1'])
 
 
 def try_long_pages():
@@ -261,15 +315,42 @@ def try_long_pages():
     expect_page('a page of 65,535 Steps, cut', page_of('long'), 'stops here: 8 SHORT at byte 13107184')
 
 
-def try_page_names():
-    os.mkdir('<')
-    names = {b'<script>alert(1)<script>': '<script>alert(1)<script>', b'</title><h1>forged': '</title><h1>forged',
-             b'"a" \'b\' &amp; &#60;': '"a" \'b\' &amp; &#60;', b'line\nend\x7f\x1b[31m': 'line?end??[31m',
-             b'\xff\xc3(\xe2\x82 \xed\xa0\x80 \xc2\x85 \xc0\xbc': '??(?? ??? ?? ??',
-             '\u010derna \u20ac \U0001f600'.encode(): '\u010derna \u20ac \U0001f600', b'\xf0\x9f\x98': '???'}
-    for name, shown in names.items():
-        page = page_of(write(name, SHORTEST), shown)
-        expect_page(f'the page of a file named {name!r}', page, steps=0)
+# Names that would forge a line, order the terminal about or turn the verdict round, names of signs that a page is made of,
+# names that are no text, and one that is only foreign; and how each is shown.
+NAMES = {
+    b'forged\ngood: accepted, 0 Steps': 'forged?good: accepted, 0 Steps',
+    b'line\rend\x7f\x1b[31m': 'line?end??[31m',
+    'next\u0085line\u2028end\u2029': 'next??line???end???',
+    'red\u009b31m': 'red??31m',
+    '\u202edetpecca\u202c': '???detpecca???',
+    '\u202a\u202b\u202d \u2066\u2067\u2068\u2069 \u200e\u200f\u061c': '????????? ???????????? ????????',
+    b'<script>alert(1)<script>': '<script>alert(1)<script>',
+    b'</title><h1>forged': '</title><h1>forged',
+    b'"a" \'b\' &amp; &#60;': '"a" \'b\' &amp; &#60;',
+    b'\xff\xc3(\xe2\x82 \xed\xa0\x80 \xc0\xbc \xf4\x90\x80\x80': '??(?? ??? ?? ????',
+    b'\xf0\x9f\x98': '???',
+    '\u010derna \u20ac \U0001f600': '\u010derna \u20ac \U0001f600',
+}
+
+
+def try_names():
+    os.mkdir('<')  # so that a name can have the / of a tag that closes
+    for name, seen in NAMES.items():
+        name = name if isinstance(name, bytes) else name.encode()
+        expect_run(f'a file named {name!r}', [write(name, SHORTEST)], 0, f'{seen}: accepted, 0 Steps\n'.encode())
+        expect_page('its page', page_of(name), steps=0)
+        os.remove(name)
+        expect_run('the same when it is gone', [name], 2, b'', f'console: {seen}: No such file or directory\n'.encode())
+        expect_run('an option of that name', [b'--' + name], 2, b'', f'console: no option --{seen}\n'.encode())
+
+
+def try_characters():
+    """Options of every character of the first plane and of one above, and of random bytes."""
+    planes = [''.join(map(chr, range(first, last))).encode() for first, last in
+              [(1, 0x6000), (0x6000, 0xD800), (0xE000, 0x10000), (0xE0000, 0xE1000)]]
+    rubbish = bytes(random.Random(1).choices([*range(1, 0x100), *range(0x80, 0xC0), 0xC2, 0xE2, 0xF0], k=100000))
+    for name, text in [*((f'each of {len(plane.decode()):,} characters', plane) for plane in planes), ('random bytes', rubbish)]:
+        expect_run(f'an option of {name}', [b'--' + text], 2, b'', f'console: no option --{shown(text)}\n'.encode())
 
 
 def try_page_usage():
@@ -293,10 +374,12 @@ with tempfile.TemporaryDirectory() as room:
     try_output()
     try_telling()
     try_folder()
+    try_flips()
     try_pages()
     try_unjudged()
     try_long_pages()
-    try_page_names()
+    try_names()
+    try_characters()
     try_page_usage()
     if KIND == 'plain':
         try_memory()

@@ -102,6 +102,11 @@ class Browser:
         """A window of that size; a narrow one as a phone has it."""
         self.ask('Emulation.setDeviceMetricsOverride', width=width, height=height, deviceScaleFactor=1, mobile=width < 600)
 
+    def show_as(self, media='', **features):
+        """The page as a reader has it set: on the screen or in print, with these of CSS's media features."""
+        given = [{'name': name.replace('_', '-'), 'value': value} for name, value in features.items()]
+        self.ask('Emulation.setEmulatedMedia', media=media, features=given)
+
     def open(self, url):
         self.events = []
         self.ask('Page.navigate', url=url)

@@ -14,6 +14,8 @@ static void close_group(void)
 {
     if (open_group == NULL)
         return;
+    if (broken_here > MOST_TOLD)
+        printf("        %s: and %lu more\n", open_group, broken_here - MOST_TOLD);
     if (broken_here == 0 && held_here != 0) {
         passed++;
         printf("ok      %s (%lu checks)\n", open_group, held_here);
@@ -39,7 +41,8 @@ bool check(bool held, const char *what, ...)
         held_here++;
         return true;
     }
-    if (broken_here++ < MOST_TOLD) {
+    broken_here++;
+    if (is_telling()) {
         printf("        %s: ", open_group);
         va_start(arguments, what);
         vprintf(what, arguments);
@@ -47,6 +50,11 @@ bool check(bool held, const char *what, ...)
         printf("\n");
     }
     return false;
+}
+
+bool is_telling(void)
+{
+    return broken_here <= MOST_TOLD;
 }
 
 int summary(void)

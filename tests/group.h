@@ -15,9 +15,15 @@ enum {
 /* Closes the group before, if any, and opens one. */
 void group(const char *name);
 
-/* One check of the open group; tells what did not hold, the first few times.  Gives back whether it held. */
+/*
+ * One check of the open group; tells what did not hold, the first ten times, and the end of the group how many more there
+ * were.  Gives back whether it held.
+ */
 __attribute__((format(printf, 2, 3)))
 bool check(bool held, const char *what, ...);
+
+/* Whether the check that has just failed was told: only then is more to be said of it. */
+bool is_telling(void);
 
 /* Closes the last group, prints the count, and gives the exit status: 0 if no group failed. */
 int summary(void);

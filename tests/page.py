@@ -3,8 +3,9 @@ import html.parser
 import re
 import struct
 
-from records import BLOCK_SIZE, PLACES, STEP_BLOCK
+from records import BLOCK_SIZE, PLACES, STEP_BLOCK, STEP_EVENT
 from sentences import NUMBER, REGISTERS, SAID, any_of
+from status import differing_fields
 
 # The only elements that a page is made of.
 ELEMENTS = set('html head meta title style body header h1 h2 bdi pre p a section ul li div svg path rect text '
@@ -22,6 +23,7 @@ ATTRIBUTES = {
     'content': any_of(re.escape(POLICY), 'width=device-width, initial-scale=1'),
     'class': '[a-z -]+', 'id': f's{NUMBER}|wrong', 'href': f'#(s{NUMBER}|wrong)', 'tabindex': '-1', 'open': '',
     'role': 'img', 'aria-label': f'modes, Step {NUMBER} and on', 'aria-hidden': 'true', 'viewbox': f'0 0 {NUMBER} {NUMBER}',
+    'style': rf'left: calc\(100% \* {NUMBER} / {NUMBER}\)',
     'd': '[Mhvlmz0-9 -]+', 'x': NUMBER, 'y': NUMBER, 'width': NUMBER, 'height': NUMBER,
 }
 
@@ -38,17 +40,31 @@ def changed_words(trace, place):
     return [[name, f'0x{old:08X}', f'0x{new:08X}'] for name, old, new in changed if old != new]
 
 
+def event_words(trace, place):
+    """The words of the event of the Step at a place, as the page has to tell them."""
+    return 'code {}, A 0x{:08X}, B 0x{:08X}'.format(*struct.unpack_from('<3I', trace, place + STEP_EVENT))
+
+
+def changes_told(rows):
+    """What the page has to say under the rows of a Step that is not wrong."""
+    words = [f'CPSR: {differing_fields(int(new, 16), "was", int(old, 16))}' for name, old, new in rows if name == 'CPSR']
+    return words if rows else ['No word changed.']
+
+
 class Page(html.parser.HTMLParser):
-    """A page: its faults, its title, its verdict, its text, its marks, and the Steps that it lists."""
+    """A page: its faults, its title, its verdict and warnings, its text, its pictures, its marks, and the Steps that it lists."""
 
     def __init__(self, content):
         super().__init__()
         self.faults, self.open, self.ids, self.links = [], [], [], []
         self.title, self.verdict, self.style, self.policy = '', '', '', ''
+        self.header, self.warnings = '', []  # the style of the verdict, and what else is to be heeded
         self.pieces = []  # of the text
         self.marks = {'entry': 0, 'refusal': 0}
+        self.pictures, self.target = [], None  # of each its parts: element, attributes and text; where #wrong is, by picture
         self.bars, self.columns = [[]], []  # of each picture: where bars begin and end, with their styles; of each Step
         self.steps = []  # of each: its style, the texts of its line, and its rows of words
+        self.told = []  # of each: what it says beside its rows, by paragraphs
         self.size = len(content)
         try:
             self.feed(content.decode())
@@ -92,7 +108,10 @@ class Page(html.parser.HTMLParser):
     def draw(self, tag, given):
         """A part of the timeline."""
         style = given.get('class', '')
+        if given.get('id') == 'wrong':
+            self.target = len(self.pictures), given['style']
         if tag == 'svg':
+            self.pictures.append([])
             self.bars.append([])
         elif tag == 'path' and style in self.marks:
             self.marks[style] += given['d'].count('M')
@@ -101,11 +120,16 @@ class Page(html.parser.HTMLParser):
             self.bars[-1] += [(int(x), int(x) + int(width), style) for x, width in bars]
         elif tag == 'rect' and style == 'link':
             self.columns.append((len(self.bars) - 1, int(given['x'])))
+        if 'svg' in self.open:
+            self.pictures[-1].append([tag, given, ''])
 
     def begin(self, tag, style):
         """Room for the texts of a Step."""
-        if tag == 'details':
+        if tag == 'header':
+            self.header = style
+        elif tag == 'details':
             self.steps.append((style, [], []))
+            self.told.append([])
         elif tag == 'span' and 'summary' in self.open:
             self.steps[-1][1].append('')
         elif tag == 'tr':
@@ -137,10 +161,16 @@ class Page(html.parser.HTMLParser):
         """A text that belongs to the verdict or to a Step."""
         if 'h1' in self.open:
             self.verdict += data
+        elif element == 'text':
+            self.pictures[-1][-1][2] += data
         elif 'summary' in self.open and 'span' in self.open:
             self.steps[-1][1][-1] += data
         elif element in ('th', 'td'):
             self.steps[-1][2][-1][-1] += data
+        elif element == 'p' and data.startswith('warning: '):
+            self.warnings.append(data)
+        elif element == 'p' and 'details' in self.open:
+            self.told[-1].append(data)
 
     def handle_comment(self, data):
         self.fault(f'a comment: {data}')
@@ -170,14 +200,17 @@ class Page(html.parser.HTMLParser):
                 yield f'  Step {number} at byte {place}: {event}; {state}; {outcome}'
 
     def wrong_changes(self, trace):
-        """The Steps that do not open to the words that they changed."""
-        for style, (number, place, *_), rows in self.steps:
-            if style != 'wrong' and rows[1:] != changed_words(trace, int(place)):
+        """The Steps that do not open to the words of their event and those that they changed."""
+        for (style, (number, place, *_), rows), told in zip(self.steps, self.told):
+            words = changed_words(trace, int(place))
+            if told != [event_words(trace, int(place)), *([] if style == 'wrong' else changes_told(words))]:
+                yield number
+            if style != 'wrong' and rows[1:] != words:
                 yield number
 
     def told_differences(self):
         """The words of the wrong Step that differ, as `console --explain` tells them."""
         for style, _, rows in self.steps:
             for row in rows:
-                if style == 'wrong' and row[-1] == 'differs':
-                    yield f'    {row[0]} {row[2]} due, {row[3]} found'
+                if style == 'wrong' and row[-1].startswith('differs'):
+                    yield f'    {row[0]} {row[2]} due, {row[3]} found{row[-1].removeprefix("differs")}'

@@ -1,6 +1,7 @@
 /*
- * The words that host/phrases.c has for a banked access, held against the step:
- * the register that each A names is the one that the step reads and writes.
+ * The words that host/phrases.c and host/status.c have, held against the step:
+ * the register that each A of a banked access names is the one that the step
+ * reads and writes, and an event is said to be bad where the step refuses it.
  */
 #define _POSIX_C_SOURCE 200809L
 
@@ -8,6 +9,7 @@
 #include "phrases.h"
 #include "pomurica.h"
 #include "record.h"
+#include "status.h"
 
 #include <stdio.h>
 #include <stdlib.h>
@@ -76,14 +78,14 @@ static void try_cell(uint32_t a)
     bool reached = false;
 
     for (size_t i = 0; i < COUNT_OF(MODES); i++)
-        for (uint32_t scr = 0; scr <= SCR_NS; scr++)
+        for (uint32_t scr = 0; scr <= POMURICA_SCR_NS; scr++)
             reached |= try_access(a, MODES[i], scr);
     check(reached == (banked_name(a) != NULL), "A %u: named as %s", (unsigned)a,
           banked_name(a) == NULL ? "no register" : banked_name(a));
 }
 
-/* What is said of an event. */
-static void expect_said(uint32_t code, uint32_t a, uint32_t b, const char *due)
+/* What is said of an event; NULL where there is no memory.  The caller frees it. */
+static char *said_of(uint32_t code, uint32_t a, uint32_t b)
 {
     uint8_t step[POMURICA_STEP_SIZE] = { 0 };
     char *said = NULL;
@@ -91,28 +93,125 @@ static void expect_said(uint32_t code, uint32_t a, uint32_t b, const char *due)
     FILE *const out = open_memstream(&said, &length);
 
     if (!check(out != NULL, "no memory"))
-        return;
-    pomurica_put_word(step, STEP_CODE, code);
-    pomurica_put_word(step, STEP_A, a);
-    pomurica_put_word(step, STEP_B, b);
+        return NULL;
+    pomurica_put_word(step, POMURICA_STEP_CODE, code);
+    pomurica_put_word(step, POMURICA_STEP_A, a);
+    pomurica_put_word(step, POMURICA_STEP_B, b);
     tell_event(out, step);
     fclose(out);
-    check(strcmp(said, due) == 0, "said: %s", said);
+    return said;
+}
+
+static void expect_said(uint32_t code, uint32_t a, uint32_t b, const char *due)
+{
+    char *const said = said_of(code, a, b);
+
+    if (said != NULL)
+        check(strcmp(said, due) == 0, "said: %s", said);
     free(said);
 }
 
 static void try_sentences(void)
 {
+    expect_said(POMURICA_EVENT_UNDEFINED, 0, 0, "Undefined Instruction");
+    expect_said(POMURICA_EVENT_PREFETCH_ABORT, POMURICA_ABORT_EXTERNAL, 0, "external Prefetch Abort");
+    expect_said(POMURICA_EVENT_DATA_ABORT, POMURICA_ABORT_EXTERNAL | POMURICA_ABORT_STAGE_2, 0,
+                "external Data Abort of stage 2");
+    expect_said(POMURICA_EVENT_INTERRUPT_CHECK, 0, 0, "interrupt check, no line");
+    expect_said(POMURICA_EVENT_INTERRUPT_CHECK, 31, 0,
+                "interrupt check, lines SError and FIQ and IRQ and virtual FIQ and virtual IRQ");
     expect_said(POMURICA_EVENT_BANKED_READ, 18, 0, "banked read of LR_svc");
     expect_said(POMURICA_EVENT_BANKED_READ, 62, 0, "banked read of SPSR_hyp");
     expect_said(POMURICA_EVENT_BANKED_READ, 7, 0, "banked read of no register (R 0 SYSm 0x07)");
-    expect_said(POMURICA_EVENT_BANKED_READ, 64, 0, "banked read of no register (A 64, above 63)");
     expect_said(POMURICA_EVENT_BANKED_WRITE, 5, 7, "banked write of 0x00000007 to SP_usr");
     expect_said(POMURICA_EVENT_BANKED_WRITE, 63, 7, "banked write of 0x00000007 to no register (R 1 SYSm 0x1F)");
-    expect_said(POMURICA_EVENT_BANKED_WRITE, 0xFFFFFFFF, 7,
-                "banked write of 0x00000007 to no register (A 4294967295, above 63)");
-    expect_said(POMURICA_EVENT_DATA_ABORT, POMURICA_ABORT_EXTERNAL | POMURICA_ABORT_STAGE_2, 0,
-                "external Data Abort of stage 2");
+    expect_said(POMURICA_EVENT_NOTE, POMURICA_PLACE_MVBAR, 7, "note: MVBAR becomes 0x00000007");
+}
+
+static void try_bad_operands(void)
+{
+    expect_said(POMURICA_EVENT_UNDEFINED, 0, 9, "Undefined Instruction, B 9, which must be 0");
+    expect_said(POMURICA_EVENT_SVC, 1, 9, "SVC, A 1, which must be 0, B 9, which must be 0");
+    expect_said(POMURICA_EVENT_SMC, 1, 0, "SMC, A 1, which must be 0");
+    expect_said(POMURICA_EVENT_HVC, 1, 0, "HVC, A 1, which must be 0");
+    expect_said(POMURICA_EVENT_PREFETCH_ABORT, 7, 0, "Prefetch Abort, A 7, above 3");
+    expect_said(POMURICA_EVENT_DATA_ABORT, 4, 0, "Data Abort, A 4, above 3");
+    expect_said(POMURICA_EVENT_DATA_ABORT, 3, 9, "external Data Abort of stage 2, B 9, which must be 0");
+    expect_said(POMURICA_EVENT_HYP_TRAP, 1, 0, "Hyp Trap, A 1, which must be 0");
+    expect_said(POMURICA_EVENT_MONITOR_TRAP, 0, 1, "Monitor Trap, B 1, which must be 0");
+    expect_said(POMURICA_EVENT_INTERRUPT_CHECK, 33, 0, "interrupt check, A 33, above 31");
+    expect_said(POMURICA_EVENT_INTERRUPT_CHECK, 4, 9, "interrupt check, lines IRQ, B 9, which must be 0");
+    expect_said(POMURICA_EVENT_BANKED_READ, 64, 0, "banked read, A 64, above 63");
+    expect_said(POMURICA_EVENT_BANKED_READ, 18, 9, "banked read of LR_svc, B 9, which must be 0");
+    expect_said(POMURICA_EVENT_BANKED_WRITE, 0xFFFFFFFF, 7, "banked write of 0x00000007, A 4294967295, above 63");
+    expect_said(POMURICA_EVENT_NOTE, POMURICA_PLACES, 7, "note of 0x00000007, A 44, above 43");
+    expect_said(0, 1, 2, "event of code 0, which is none");
+    expect_said(13, 0, 0, "event of code 13, which is none");
+}
+
+/* Whether the words say that an event is bad, and whether the step, from a good block, does. */
+static void try_event(uint32_t code, uint32_t a, uint32_t b)
+{
+    uint8_t block[POMURICA_BLOCK_SIZE], answer[POMURICA_ANSWER_SIZE];
+    char *const said = said_of(code, a, b);
+    bool bad;
+
+    if (said == NULL)
+        return;
+    fill_block(block, POMURICA_MODE_SUPERVISOR, 0);
+    bad = pomurica_step(block, sizeof block, code, a, b, answer, sizeof answer) == POMURICA_BAD_EVENT;
+    check(bad == (strstr(said, "must be 0") || strstr(said, "above") || strstr(said, "which is none")),
+          "code %u, A %u, B %u: %s", (unsigned)code, (unsigned)a, (unsigned)b, said);
+    free(said);
+}
+
+static void try_events(void)
+{
+    static const uint32_t WORDS[] = { 0, 1, 2, 3, 4, 7, 31, 32, 33, 43, 44, 63, 64, 256, 0x80000000, 0xFFFFFFFF };
+
+    for (uint32_t code = 0; code <= POMURICA_EVENT_NOTE + 2; code++)
+        for (size_t i = 0; i < COUNT_OF(WORDS); i++)
+            for (size_t j = 0; j < COUNT_OF(WORDS); j++)
+                try_event(code, WORDS[i], WORDS[j]);
+    try_event(0x80000001, 0, 0);
+}
+
+static void expect_fields(uint32_t found, uint32_t due, const char *expected)
+{
+    char *said = NULL;
+    size_t length = 0;
+    FILE *const out = open_memstream(&said, &length);
+
+    if (!check(out != NULL, "no memory"))
+        return;
+    tell_fields(out, found, "due", due);
+    fclose(out);
+    check(strcmp(said, expected) == 0, "said: %s", said);
+    free(said);
+}
+
+static void try_fields(void)
+{
+    expect_fields(0x13, 0x13, "");
+    expect_fields(0x00000112, 0x00000192, "I clear, due set");
+    expect_fields(0x33, 0x13, "T set, due clear");
+    expect_fields(0x12, 0x16, "mode IRQ, due Monitor");
+    expect_fields(0, 0x13, "mode 0x00, due Supervisor");
+    expect_fields(0x00000410, 0x10, "IT 0x04, due 0x00");
+    expect_fields(0x06000010, 0x0400FC10, "IT 0x03, due 0xFE");
+    expect_fields(0x01200010, 0x00030010, "bits 24-21 0x09, due 0x00; GE 0x00, due 0x03");
+    expect_fields(0xF81003D0, 0x00000010,
+                  "N set, due clear; Z set, due clear; C set, due clear; V set, due clear; Q set, due clear; "
+                  "IL set, due clear; E set, due clear; A set, due clear; I set, due clear; F set, due clear");
+}
+
+/* The status words among the parts of a Step are those that their names call so. */
+static void try_status_words(void)
+{
+    check(!is_status(POMURICA_PART_NUMBER) && !is_status(POMURICA_PART_VALUE), "the answer");
+    for (uint32_t place = 0; place < POMURICA_PLACES; place++)
+        check(is_status(POMURICA_PART_BLOCK + place) == (strstr(register_name(place), "PSR") != NULL), "%s",
+              register_name(place));
 }
 
 int main(void)
@@ -120,7 +219,14 @@ int main(void)
     group("each A, 0 to 63, names the register that the step reads and writes");
     for (uint32_t a = 0; a < CELLS; a++)
         try_cell(a);
-    group("what is said of a banked access");
+    group("what is said of an event");
     try_sentences();
+    group("what is said of an event with an operand out of its range, or of no event");
+    try_bad_operands();
+    group("an event is said to be bad exactly where the step answers BAD_EVENT");
+    try_events();
+    group("the fields in which a status word differs");
+    try_fields();
+    try_status_words();
     return summary();
 }

@@ -8,6 +8,7 @@ PLACES, CPSR = 44, 33
 BLOCK_SIZE = 4 * PLACES
 START_KIND, STEP_KIND, END_KIND = 1, 2, 3
 START_BLOCK, STEP_BLOCK = 8, 24  # where the block begins in a Start and in a Step
+STEP_EVENT, STEP_NUMBER = 4, 16  # where a Step has its event, and its answer's number
 START_SIZE, STEP_SIZE, END_SIZE = START_BLOCK + BLOCK_SIZE, STEP_BLOCK + BLOCK_SIZE, 8
 NOTE = 12
 
@@ -26,6 +27,13 @@ SHORTEST = start_record(0) + end_record(0)
 def length_of(steps):
     """The bytes of a trace of so many Steps."""
     return START_SIZE + STEP_SIZE * steps + END_SIZE
+
+
+def accepted(trace):
+    """What the console says of an accepted trace, by its length and the answers of its Steps."""
+    steps = range(START_SIZE, len(trace) - END_SIZE, STEP_SIZE)
+    done = sum(int.from_bytes(trace[step + STEP_NUMBER:step + STEP_NUMBER + 4], 'little') == 0 for step in steps)
+    return f'accepted, {len(steps)} Steps' + (f': {done} done, {len(steps) - done} refused' if steps else '')
 
 
 def note(block, place, word):

@@ -1,4 +1,5 @@
 """The sentences of a page of `console --html`: what each of its elements may say, line by line, as patterns."""
+from status import FIELDS, MODES
 
 REGISTERS = ('R8_usr R9_usr R10_usr R11_usr R12_usr SP_usr LR_usr R8_fiq R9_fiq R10_fiq R11_fiq R12_fiq SP_fiq LR_fiq '
              'LR_irq SP_irq LR_svc SP_svc LR_abt SP_abt LR_und SP_und LR_mon SP_mon ELR_hyp SP_hyp SPSR_fiq SPSR_irq '
@@ -15,25 +16,30 @@ NUMBER, COUNT, BYTE, WORD = '[0-9]+', '[0-9]{1,3}(,[0-9]{3})*', '0x[0-9A-F]{2}',
 ANSWER = f'{NUMBER} ' + any_of(*'DONE BAD_SIZE BAD_MODE BAD_STATE BAD_EVENT NOT_HERE NO_REGISTER NO_RIGHT SHORT BAD_RECORD '
                                'BAD_COUNT WRONG_STEP TRAILING UNKNOWN'.split())
 REGISTER = any_of(*REGISTERS)
-BANKED = any_of(*REGISTERS[:REGISTERS.index('CPSR')], r'no register \(R [01] SYSm 0x[01][0-9A-F]\)',
-                rf'no register \(A {NUMBER}, above 63\)')
+BANKED = any_of(*REGISTERS[:REGISTERS.index('CPSR')], r'no register \(R [01] SYSm 0x[01][0-9A-F]\)')
 RECORD = any_of('the Start', 'a Step', 'the End')
-MODE = any_of('User', 'FIQ', 'IRQ', 'Supervisor', 'Monitor', 'Abort', 'Hyp', 'Undefined', 'System')
+MODE = any_of(*MODES.values())
 LINE = any_of('SError', 'FIQ', 'IRQ', 'virtual FIQ', 'virtual IRQ')
 EVENT = any_of('Undefined Instruction', 'SVC', 'SMC', 'HVC', 'Hyp Trap', 'Monitor Trap',
                '(external )?(Prefetch|Data) Abort( of stage 2)?',
-               'interrupt check', 'interrupt check, no line', f'interrupt check, lines {LINE}( and {LINE})*',
+               'interrupt check, no line', f'interrupt check, lines {LINE}( and {LINE})*',
                f'banked (read of|write of {WORD} to) {BANKED}',
-               f'note: {REGISTER} becomes {WORD}', f'note on place {NUMBER}, which is none',
-               f'event of code {NUMBER}, which is none')
+               f'note: {REGISTER} becomes {WORD}',
+               f'event of code {NUMBER}, which is none',
+               f'((Prefetch|Data) Abort|interrupt check|banked read|(banked write|note) of {WORD}), A {NUMBER}, above {NUMBER}')
+EVENT += f'(, A {NUMBER}, which must be 0)?(, B {NUMBER}, which must be 0)?'
 STATE = (any_of(f'(Secure|Non-secure) {MODE}', 'Monitor with NS [01]', f'mode {BYTE}, which is none') +
          any_of(', nothing masked', ', masked A( I)?( F)?', ', masked I( F)?', ', masked F'))
 OUTCOME = any_of(f'refused with {ANSWER}', f'reads {WORD}', 'written', 'takes nothing',
                  f'((virtual )?(SError|FIQ|IRQ): )?enters ({MODE}|no) mode at {BYTE}')
 
+VALUE = any_of('set', 'clear', BYTE, MODE)
+DIFFERENCE, CHANGE = (f'{any_of(*FIELDS)} {VALUE}, {due} {VALUE}' for due in ('due', 'was'))
+
 # The sentences, by element.
 SAID = {
-    'h1': f': (accepted, {NUMBER} Steps|refused {ANSWER} at byte {NUMBER} after {NUMBER} Steps)',
+    'h1': ': ' + any_of('accepted, 0 Steps', f'accepted, {NUMBER} Steps: {NUMBER} done, {NUMBER} refused',
+                        f'refused {ANSWER} at byte {NUMBER} after {NUMBER} Steps'),
     'pre': any_of(
         f'{RECORD} of {NUMBER} bytes was due; only {NUMBER} are there',
         f'{RECORD} was due, of length {NUMBER} and kind {NUMBER}; length {NUMBER} and kind {NUMBER} are there',
@@ -43,9 +49,11 @@ SAID = {
         f'Step {NUMBER} at byte {NUMBER}: {EVENT}',
         f'it was in {STATE}',
         f'the rules give: {OUTCOME}',
-        f'(answer number|answer value|{REGISTER}) {WORD} due, {WORD} found'),
+        f'(answer number|answer value|{REGISTER}) {WORD} due, {WORD} found(: {DIFFERENCE}(; {DIFFERENCE})*)?'),
     'p': any_of(
         'This Step', ',',  # before its links and between them
+        'warning: no Step was done, so the trace shows nothing of what the unit runs',
+        f'code {NUMBER}, A {WORD}, B {WORD}', f'CPSR: {CHANGE}(; {CHANGE})*',
         r'There is nothing to draw: the Start itself is refused\.',
         r'A column is one Step, with a bar in the mode that it was in\.',
         rf'A column is {NUMBER} Steps\. The height of a bar is the share of them that were in the mode, '
@@ -69,6 +77,6 @@ SAID = {
                    f'; the rules give: {OUTCOME}'),
     'b': 'WRONG',
     'th': any_of('word', 'before', 'after', 'due', 'found', 'answer number', 'answer value', REGISTER),
-    'td': any_of(WORD, 'differs'),
-    'style': any_of(r'(\\[0-9A-F]+)+', r'at byte\\A0'),  # what it puts on the page: signs by their numbers
+    'td': any_of(WORD, f'differs(: {DIFFERENCE}(; {DIFFERENCE})*)?'),
+    'style': any_of(r'(\\[0-9A-F]+)+', r'(at byte|before|due|found)\\A0'),  # what it puts on the page: signs by their numbers
 }

@@ -1,32 +1,47 @@
-# How to compile, link and run C over the archive, on either kind of processor. Sourced by the scripts, which set $root.
+# How to prove, compile, link and run, on either kind of processor. Sourced by the scripts, which set $root.
 #
 # The archive is x86-64 code. The kit brings a compiler, a linker and a C library for it and, on Arm, an emulator. It has no
 # C headers: they come from the machine's packages. What is missing is installed, by package name, when it is first needed.
+# shellcheck shell=sh disable=SC2154
 
-kit=$(dirname "$(dirname "$(rt doc)")") || exit 2
+say() { printf '%s\n' "$*" >&2; }
+
+# tell WORD...: says something under the script's own name.
+tell() { say "${0##*/}: $*"; }
+
+# give_up WORD...: tells why, and ends the script.
+give_up() {
+    tell "$@"
+    exit 2
+}
+
+command -v rt >/dev/null || give_up "the Rattle kit's rt is not on the path"
+guide=$(rt doc </dev/null) || give_up "the Rattle kit's rt on the path does not work"
+[ -f "$guide" ] || give_up "the Rattle kit's rt on the path names no guide (rt doc), so its kit cannot be found"
+kit=$(dirname -- "$(dirname -- "$guide")")
 own=$kit/on/$(uname -m)
+[ -d "$own" ] || give_up "the Rattle kit at $kit has nothing for this machine, $(uname -m)"
 tools=$own/toolchain
 target=x86_64-unknown-linux-gnu
 archive=$root/target/staticlib/libconsole.a
+verdict=$root/target/bin/verdict
 built=$root/target/host
 
 # The console program, which both ./console and ./test build; of its files, those of the page.
 page_sources='host/page.c host/timeline.c host/picture.c host/columns.c host/listing.c host/count.c'
-console_sources="host/console.c host/tell.c $page_sources host/phrases.c"
+console_sources="host/console.c host/tell.c $page_sources host/name.c host/status.c host/phrases.c"
 
 emulator=
 [ ! -x "$tools/bin/qemu-x86_64" ] || emulator=$tools/bin/qemu-x86_64
 
 # What everything is compiled with, by whichever compiler.
-strict='-std=c11 -Wall -Wextra -Werror'
-
-say() { printf '%s\n' "$*" >&2; }
+strict='-std=c11 -Wall -Wextra -Wconversion -Wshadow -Werror'
 
 # install PACKAGE...
 install() {
     say "installing $*"
-    as_root=
-    [ "$(id -u)" -eq 0 ] || as_root='sudo -n'
+    as_root='env DEBIAN_FRONTEND=noninteractive' # nobody sees a question that it would ask
+    [ "$(id -u)" -eq 0 ] || as_root="sudo -n $as_root"
     { $as_root apt-get install -y --no-install-recommends "$@" ||
         { $as_root apt-get update && $as_root apt-get install -y --no-install-recommends "$@"; }; } >/dev/null 2>&1 ||
         { say "cannot install $*"; return 1; }
@@ -55,15 +70,21 @@ find_headers() {
         libc_headers="-isystem /usr/x86_64-linux-gnu/include"
         ;;
     esac
-    headers="-nostdinc -isystem $(gcc -print-file-name=include) $libc_headers"
+    gcc_headers=$(gcc -print-file-name=include)
 }
 
-# compile OBJECT SOURCE [FLAG...]: for x86-64, by the kit's clang, as fast as the archive itself is compiled.
+# kit_clang ARGUMENT...: the kit's compiler, for x86-64, with the headers that find_headers found.
+kit_clang() {
+    # shellcheck disable=SC2086 # a list of words
+    "$tools/bin/clang" --target=$target -nostdinc -isystem "$gcc_headers" $libc_headers -I"$root/host" "$@"
+}
+
+# compile OBJECT SOURCE [FLAG...]: as fast as the archive itself is compiled.
 compile() {
     object=$1 source=$2
     shift 2
-    # shellcheck disable=SC2086 # lists of words
-    "$tools/bin/clang" --target=$target -march=x86-64 -O3 -fPIE $strict $headers -I"$root/host" "$@" -c "$source" -o "$object"
+    # shellcheck disable=SC2086 # a list of words
+    kit_clang -march=x86-64 -O3 -fPIE $strict "$@" -c "$source" -o "$object"
 }
 
 # build PROGRAM SOURCE...: a C program over the archive, as $built/PROGRAM. Objects go before the archive.
@@ -72,21 +93,20 @@ build() {
     program=$1
     shift
     mkdir -p "$built/$program.objects" || return
-    objects=
     for source in "$@"; do
         object=$built/$program.objects/$(echo "${source%.c}" | tr / -).o
         compile "$object" "$root/$source" || return
-        objects="$objects $object"
+        set -- "$@" "$object" # in the place of its source
+        shift
     done
-    # shellcheck disable=SC2086
-    linked=$("$own/bin/rattle-link" --target $target --toolchain "$tools" -o "$built/$program.new" $objects "$archive" 2>&1) ||
+    linked=$("$own/bin/rattle-link" --target $target --toolchain "$tools" -o "$built/$program.new" "$@" "$archive" 2>&1) ||
         { say "$linked"; return 1; }
     mv "$built/$program.new" "$built/$program"
 }
 
 # start FILE [ARGUMENT...]: a program for x86-64, by its path; its exit status passes through.
 start() {
-    $emulator "$tools/lib/ld-linux-x86-64.so.2" --library-path "$tools/lib" "$@"
+    ${emulator:+"$emulator"} "$tools/lib/ld-linux-x86-64.so.2" --library-path "$tools/lib" "$@"
 }
 
 # run PROGRAM [ARGUMENT...]: what build built.
@@ -107,35 +127,133 @@ build_native() {
     (cd "$root" && gcc $strict -O1 -g -fsanitize=address,undefined -fno-sanitize-recover=all -Ihost -o "$native" "$@")
 }
 
-# Whether FILE is there and nothing of the listed files and folders, from the root, is newer.
-is_fresh() {
-    file=$1
-    shift
-    [ -e "$file" ] && (cd "$root" && [ -z "$(find "$@" -type f -newer "$file" -print -quit)" ])
+# What is made and kept: where it stands, the files and folders that it is made from, and how it is made anew.
+about() {
+    case $1 in
+    archive) product=$archive sources='crates.txt crates' ;;
+    verdict) product=$verdict sources='crates.txt crates' ;;
+    console) product=$built/console sources='crates.txt crates host tools/kit.sh' ;;
+    esac
 }
 
-# Proves and writes the archive where the crates changed since.
-make_archive() {
-    is_fresh "$archive" crates.txt crates && return
-    (cd "$root" && rt staticlib console) && touch "$archive"
+archive_anew() { rt staticlib console; }
+
+# rt links a program where it proves it, and knows by its own stamp that it did: which says nothing if the program is gone.
+verdict_anew() {
+    [ -e "$verdict" ] || rm -f target/stamp/verdict
+    rt check verdict
 }
 
-# prepare NAME COMMAND...: what a script does before its own work where something changed. Says so on standard error, with
-# dots while it lasts; what the command prints is shown, its end, only where it fails.
+# shellcheck disable=SC2086 # a list of words
+console_anew() { make archive && build console $console_sources; }
+
+# is_fresh NAME: whether it was made, and no source changed since its making began. By the time at which a file's status
+# changed, folders too: so a file that is gone counts, and an older one that is put in its place.
+is_fresh() (
+    about "$1"
+    # shellcheck disable=SC2086 # a list of words
+    [ -e "$product" ] && [ -e "$product.made" ] && cd "$root" &&
+        changed=$(find $sources -cnewer "$product.made" -print -quit) && [ -z "$changed" ]
+)
+
+# remake NAME: makes it, with a mark beside it that is as old as the beginning, so that a source which is edited meanwhile
+# counts as changed. The second between is for a file system that keeps times in whole seconds.
+remake() (
+    about "$1"
+    mkdir -p "$(dirname -- "$product")" && rm -f "$product.made" && touch "$product.making" && sleep 1 || exit
+    cd "$root" && "$1_anew" || exit
+    [ -e "$product" ] || give_up "no $product was made"
+    mv "$product.making" "$product.made"
+)
+
+# make NAME: the same where it is not fresh.
+make() { is_fresh "$1" || remake "$1"; }
+
+# A temporary folder for what runs apart, whatever it leaves there; rt, as root, runs a program as nobody, who has to get in.
+scratch=''
+make_scratch() {
+    scratch=$(mktemp -d) || give_up 'cannot write in the temporary folder'
+    chmod 711 "$scratch"
+}
+
+# apart COMMAND...: runs a command that a signal to this script ends, with all that it started: rt starts its proofs in the
+# background, where Ctrl-C is not heard. timeout, of coreutils, makes a process group of its command and passes a signal on
+# to the whole group; 0 is no limit.
+apart() {
+    trap 'end_by 1' HUP
+    trap 'end_by 2' INT
+    trap 'end_by 15' TERM
+    timeout 0 env ${scratch:+TMPDIR="$scratch"} "$@" </dev/null &
+    ended=0
+    wait $! || ended=$?
+    trap - HUP INT TERM
+    return $ended
+}
+
+# end_by SIGNAL: ends what runs in the background, and then this script as a shell tells it of one that a signal ended.
+dots=''
+end_by() {
+    trap '' HUP INT TERM
+    kill $! ${dots:+"$dots"} 2>/dev/null
+    wait
+    rm -rf "$scratch"
+    exit $((128 + $1))
+}
+
+# One build at a time in a folder: the lock is on the root folder itself, which stays when target/ goes. What is started
+# under the lock, in the same folder, does not wait for it. flock is of util-linux, which every Debian has; a file system
+# without locks does without.
+lock() {
+    [ "${POMURICA_LOCKED-}" != "$root" ] || return 0
+    exec 9<"$root"
+    busy=0
+    flock -n 9 2>/dev/null || busy=$?
+    [ $busy -ne 1 ] || { tell "something else builds in $root; waiting for it"; apart flock 9; }
+    export POMURICA_LOCKED="$root"
+}
+
+unlock() {
+    exec 9<&-
+    unset POMURICA_LOCKED
+}
+
+# alone SCRIPT [ARGUMENT...]: for a script that builds all along. Runs it again, apart and under the lock; only that second
+# run comes back from here.
+alone() {
+    [ "${POMURICA_LOCKED-}" != "$root" ] || return 0
+    make_scratch
+    lock
+    status=0
+    apart sh "$@" || status=$?
+    rm -rf "$scratch"
+    exit $status
+}
+
+# prepare NAME: makes what a script runs, where something changed. Says so on standard error, with dots while it lasts; what
+# the making prints is shown, its end, only where it fails.
 prepare() {
-    name=$1
-    shift
-    log=$(mktemp) || return
-    say "$name: proving and building, a few minutes the first time"
-    # The dots end with the script too, also when that is interrupted.
-    while kill -0 $$ 2>/dev/null; do printf . >&2; sleep 2 >/dev/null 2>&1; done &
+    is_fresh "$1" && return
+    lock
+    prepared=0
+    is_fresh "$1" || make_quietly "$1" || prepared=1
+    unlock
+    return $prepared
+}
+
+make_quietly() {
+    make_scratch
+    tell 'proving and building, a few minutes the first time'
+    # The dots end with the script too, also when that is killed: a process that ended is in no folder.
+    while [ -d /proc/$$/cwd ]; do printf . >&2; sleep 2 >/dev/null 2>&1; done 9<&- &
     dots=$!
-    prepared=yes
-    "$@" >"$log" 2>&1 || prepared=
+    # shellcheck disable=SC2016 # expands in the shell that is started
+    apart sh -c 'root=$1 && . "$root/tools/kit.sh" && make "$2"' "$0" "$root" "$1" >"$scratch/log" 2>&1
+    made=$?
     kill $dots
     wait $dots 2>/dev/null
+    dots=
     echo >&2
-    [ -n "$prepared" ] || { tail -n 20 "$log" >&2; say "$name: could not be built"; }
-    rm -f "$log"
-    [ -n "$prepared" ]
+    [ $made -eq 0 ] || { tail -n 20 "$scratch/log" >&2; tell 'could not be built'; }
+    rm -rf "$scratch"
+    return $made
 }

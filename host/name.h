@@ -1,0 +1,21 @@
+/*
+ * Names that others chose, of files and in arguments, as text that is nothing
+ * but a name.  A name could else forge a line of its own, give orders to the
+ * terminal, or turn the verdict behind it round.
+ */
+#ifndef NAME_H
+#define NAME_H
+
+#include <stdio.h>
+
+/*
+ * Puts a name on a line.  `?` stands for each byte of what is not shown: bytes
+ * that are no UTF-8, control characters, ends of lines, and the controls that
+ * turn the direction of the text.
+ */
+void put_name(FILE *out, const char *name);
+
+/* The same as text of a page. */
+void put_name_in_page(FILE *out, const char *name);
+
+#endif

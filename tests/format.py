@@ -1,0 +1,112 @@
+"""docs/FORMAT.md's drawn trace, put together and judged, and its numbers held against the header's.
+
+    format.py CONSOLE...
+
+CONSOLE is the console's command, of one word or several.
+"""
+import pathlib
+import re
+import subprocess
+import sys
+import tempfile
+
+ROOT = pathlib.Path(__file__).resolve().parent.parent
+PAGE = (ROOT / "docs/FORMAT.md").read_text()
+HEADER = (ROOT / "host/pomurica.h").read_text()
+
+ROW = re.compile(r"^ +(\d+)  ((?:[0-9A-F]{2} )+|00 x \d+) +\S", re.MULTILINE)
+
+results = []
+
+
+def check(holds, what):
+    results.append(holds)
+    print(("ok  " if holds else "FAILED  ") + what)
+
+
+def bytes_of(cell):
+    """The bytes of a row: pairs of digits, or so many zeros."""
+    if " x " in cell:
+        return bytes(int(cell.split(" x ")[1]))
+    return bytes.fromhex(cell)
+
+
+def drawn_trace():
+    """The rows put together; None where a row does not stand at the byte that it names."""
+    trace = b""
+    for place, cell in ROW.findall(PAGE):
+        if int(place) != len(trace):
+            return None
+        trace += bytes_of(cell)
+    return trace
+
+
+def judge(console, trace):
+    with tempfile.NamedTemporaryFile() as file:
+        file.write(trace)
+        file.flush()
+        done = subprocess.run([*console, file.name], capture_output=True, text=True, check=False)
+    return done.returncode, done.stdout.removeprefix(file.name + ": ")
+
+
+def constants():
+    """The header's names with their numbers."""
+    simple = re.findall(r"POMURICA_(\w+) = (\w+)", HEADER)
+    shifted = re.findall(r"#define POMURICA_(\w+) \(UINT32_C\((\d+)\) << (\d+)\)", HEADER)
+    found = {name: int(number, 0) for name, number in simple}
+    found.update({name: int(bits) << int(shift) for name, bits, shift in shifted})
+    return found
+
+
+def bit_rows():
+    """Word and bit names of the page's table of bits, with the mask of each."""
+    table = PAGE.split("| Word | Bits")[1].split("\n\n")[0]
+    for line in table.splitlines()[2:]:
+        words, fields = [cell.strip() for cell in line.strip("|").split("|")]
+        for field in fields.split(", "):
+            name, span = field.rsplit(" ", 1)
+            high, low = (span + "-" + span).split("-")[:2]
+            for word in words.split(", "):
+                yield word, name, (1 << int(high) + 1) - (1 << int(low))
+
+
+def header_name(word, field):
+    """CPSR and "IT[7:2]" give CPSR_IT_7_2; an SPSR has CPSR's bits, HSCTLR SCTLR's."""
+    word = {"SPSR": "CPSR", "HSCTLR": "SCTLR"}.get(word, word)
+    return word + "_" + re.sub(r"\W+", "_", field).strip("_").upper()
+
+
+def check_places(numbers):
+    names = []
+    table = PAGE.split("| Places | Words |")[1].split("\n\n")[0]
+    for line in table.splitlines()[2:]:
+        cell = line.strip("|").split("|")[1].split(":")[0]
+        names += [name.strip() for name in cell.split(",")]
+    short = {"SCTLR of the Secure state": "SCTLR_S", "SCTLR of the Non-secure state": "SCTLR_NS",
+             "VBAR of the Secure state": "VBAR_S", "VBAR of the Non-secure state": "VBAR_NS"}
+    found = [numbers.get("PLACE_" + short.get(name, name).upper()) for name in names]
+    check(found == list(range(44)), "the 44 places stand in the header's order")
+
+
+def main():
+    console = sys.argv[1:]
+    trace = drawn_trace()
+    check(trace is not None and len(trace) == 392, "each drawn row stands at the byte that it names, 392 in all")
+    status, line = judge(console, trace or b"")
+    check(status == 0 and line.startswith("accepted, 1 Steps"), "the drawn trace is accepted, 1 Steps")
+    status, line = judge(console, (trace or b"")[:320] + b"\0" + (trace or b"")[321:])
+    check(status == 1 and line == "refused 11 WRONG_STEP at byte 184 after 0 Steps\n", "without its SPSR_svc it is refused")
+
+    numbers = constants()
+    rows = list(bit_rows())
+    wrong = [row for row in rows if numbers.get(header_name(*row[:2]), 31 if row[1] == "mode" else None) != row[2]]
+    check(len(rows) > 40 and not wrong, f"the {len(rows)} fields of the table of bits are the header's {wrong or ''}")
+    check_places(numbers)
+    codes = re.findall(r"^\| (\d+) \| (.*?)[,:|]", PAGE.split("## The event")[1].split("## The answer")[0], re.MULTILINE)
+    check([int(code) for code, _ in codes] == list(range(1, 13)), "the twelve codes, in order")
+    print(f"{sum(results)} passed, {len(results) - sum(results)} failed")
+    return 0 if all(results) else 1
+
+
+if __name__ == "__main__":
+    sys.exit(main())

@@ -1,0 +1,127 @@
+/*
+ * A mutant of the second implementation against the second implementation, on
+ * the questions and traces that the comparisons use, up to the first
+ * difference.
+ *
+ *     hunt STEPS TRACES SEED
+ *
+ * Status 0: no difference was found; 3: one was.  A mutant that does not come
+ * to an end, or does what no step may, is ended by a signal.
+ */
+#define _POSIX_C_SOURCE 200809L
+
+#include "edge.h"
+#include "question.h"
+#include "traces.h"
+
+#include "../second/second.h"
+#include "../second/words.h"
+
+#include <stdio.h>
+#include <stdlib.h>
+#include <string.h>
+#include <unistd.h>
+
+typedef uint32_t check_function(const uint8_t *, size_t, uint8_t *, size_t);
+
+/* The mutant: compiled from a changed copy under these names. */
+step_function mutant_step;
+check_function mutant_check;
+
+enum {
+    FOUND = 3,
+    PATIENCE = 3, /* seconds, for what takes milliseconds */
+    A_FEW_STEPS = 4096,
+    A_FEW_TRACES = 64,
+    MOST_STEPS = 65535,
+    LONGEST = START_SIZE + MOST_STEPS * STEP_SIZE + END_SIZE
+};
+
+static bool do_steps_differ(struct chance *chance, unsigned long steps)
+{
+    static struct question question;
+    static struct call ours, theirs;
+
+    for (unsigned long i = 0; i < steps; i++) {
+        if (i % A_FEW_STEPS == 0)
+            alarm(PATIENCE); /* the time before is forgotten */
+        ask(chance, &question);
+        call_step(second_step, &question, &ours);
+        call_step(mutant_step, &question, &theirs);
+        if (difference(&ours, &theirs) != NULL)
+            return true;
+    }
+    return false;
+}
+
+/* The number, or none there is where a guard byte changed. */
+static uint32_t call_check(check_function *check, const uint8_t *trace, size_t length, size_t report_len, struct lent *report)
+{
+    static const uint8_t OLD_REPORT[LENT_MOST] = { 1, 2, 3, 4, 5, 6, 7, 8, 9, 10, 11, 12 };
+    const uint32_t number = check(trace, length, lend(report, OLD_REPORT, report_len, length % 16), report_len);
+
+    return take_back(report) ? number : UINT32_MAX;
+}
+
+/* One trace and one size of the report. */
+static bool do_checks_differ(const uint8_t *trace, size_t length, size_t report_len)
+{
+    const uint8_t *lent = lend_at_edge(trace, length);
+    struct lent ours, theirs;
+    const uint32_t number = call_check(second_check, lent, length, report_len, &ours);
+
+    return call_check(mutant_check, lent, length, report_len, &theirs) != number ||
+           memcmp(bytes_of(&ours), bytes_of(&theirs), report_len) != 0;
+}
+
+static bool do_traces_differ(struct chance *chance, unsigned long traces)
+{
+    static uint8_t trace[MADE_SIZE];
+    struct expected expected;
+
+    for (unsigned long i = 0; i < traces; i++) {
+        const size_t length = make_trace(chance, (enum damage)(i % DAMAGES), trace, &expected);
+
+        if (i % A_FEW_TRACES == 0)
+            alarm(PATIENCE);
+        if (do_checks_differ(trace, length, REPORT_SIZE) || do_checks_differ(trace, length, i % (2 * REPORT_SIZE)))
+            return true;
+    }
+    return false;
+}
+
+/* The longest trace, whole and one byte short. */
+static bool does_longest_differ(struct chance *chance)
+{
+    const size_t longest = LONGEST;
+    uint8_t *trace = malloc(longest);
+    bool differ;
+
+    if (trace == NULL) {
+        perror("hunt");
+        exit(2);
+    }
+    alarm(10 * PATIENCE);
+    record_trace(chance, MOST_STEPS, trace);
+    differ = do_checks_differ(trace, longest, REPORT_SIZE) || do_checks_differ(trace, longest - 1, REPORT_SIZE);
+    free(trace);
+    return differ;
+}
+
+int main(int argc, char **argv)
+{
+    struct chance chance;
+    unsigned long steps, traces;
+
+    if (argc != 4) {
+        fprintf(stderr, "usage: hunt STEPS TRACES SEED\n");
+        return 2;
+    }
+    steps = strtoul(argv[1], NULL, 10);
+    traces = strtoul(argv[2], NULL, 10);
+    chance.seed = strtoull(argv[3], NULL, 10);
+    open_edge(LONGEST);
+    if (do_steps_differ(&chance, steps) || do_traces_differ(&chance, traces))
+        return FOUND;
+    return traces != 0 && does_longest_differ(&chance) ? FOUND : 0;
+}

@@ -1,0 +1,74 @@
+/*
+ * What a comparison of steps met, and how often: numbers, entries and the ways
+ * to them, operands at the ends of their ranges, notes refused for the block
+ * they would make, and every right to a banked register.
+ */
+#ifndef MET_H
+#define MET_H
+
+#include "question.h"
+
+#include "../second/words.h"
+
+enum {
+    NUMBERS = NO_RIGHT + 1,
+    WHICH_COUNT = 7,
+    MODE_NUMBERS = 32,
+    ROWS = 7, /* of the masking table (document 01, "The interrupt check") */
+    BITS = 32,
+    CELLS = 64
+};
+
+/* Ways of an entry to Monitor or Hyp that hang on more than the code. */
+enum way {
+    SMC_BY_TSC,
+    PREFETCH_ABORT_BY_EA, DATA_ABORT_BY_EA, STAGE_2_BY_EA,
+    STAGE_2_TO_HYP,
+    UNDEFINED_BY_TGE, SVC_BY_TGE, PREFETCH_ABORT_BY_TGE, DATA_ABORT_BY_TGE, INTERRUPT_BY_TGE,
+    WAYS
+};
+
+/* The words by which a note can spoil a block, and what is then wrong with it. */
+enum steering_word {
+    BY_CPSR, BY_SCR, BY_HCR,
+    STEERING_WORDS
+};
+enum fault {
+    NO_MODE, BITS_24_TO_21, HYP_WITHOUT_NS, EL1_UNDER_TGE,
+    FAULTS
+};
+
+/* A banked access, and what it comes to. */
+enum access {
+    BANKED_READ, BANKED_WRITE,
+    ACCESSES
+};
+enum right {
+    ALLOWED, DENIED, EMPTY,
+    RIGHTS
+};
+
+/* How often each thing was met. */
+struct met {
+    unsigned long steps, done;
+    unsigned long number[NUMBERS];
+    unsigned long judged[CODES][MODE_NUMBERS]; /* by code and mode: good block, known event */
+    unsigned long target[MODE_NUMBERS];
+    unsigned long ns_cleared[MODE_NUMBERS]; /* by target */
+    unsigned long high[MODE_NUMBERS][2];    /* by target and NS after: vectors at 0xFFFF0000 */
+    unsigned long which[WHICH_COUNT];
+    unsigned long way[WAYS + 1];
+    unsigned long nothing_taken;
+    unsigned long row[ROWS]; /* an exception is pending, its mask bit is 1, the row decides */
+    unsigned long largest[CODES], above[CODES]; /* by code: A at its largest, and one above */
+    unsigned long b_bit[CODES][BITS];           /* by code: B is this bit alone */
+    unsigned long spoilt[STEERING_WORDS][FAULTS]; /* a refused note: this fault alone */
+    unsigned long right[CELLS][MODE_NUMBERS][2][RIGHTS][ACCESSES]; /* by A, mode and NS */
+};
+
+extern struct met met;
+
+/* Counts a question that both sides answered so. */
+void count_step(const struct question *question, const struct call *call);
+
+#endif

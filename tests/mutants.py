@@ -1,0 +1,63 @@
+#!/usr/bin/env python3
+"""mutants.py SCRIPT: tries tools/mutants on a few mutants. Ends with `N passed, M failed`."""
+import os
+import subprocess
+import sys
+import tempfile
+
+SCRIPT = os.path.abspath(sys.argv[1])
+# B 1 allowed for each of codes 1 to 10; a mask not set, a refusal gone, a condition turned round, a label gone; a wrong count.
+KILLED = [
+    *(f'LARGEST: [CODE_{code}] = {{ {a}, [[0 => 1]] }},' for code, a in [
+        ('UNDEFINED', 0), ('SVC', 0), ('SMC', 0), ('HVC', 0), ('PREFETCH_ABORT', 3), ('DATA_ABORT', 3), ('HYP_TRAP', 0),
+        ('MONITOR_TRAP', 0), ('INTERRUPT_CHECK', 31), ('BANKED_READ', 63)]),
+    'masks_of_hyp: [[masks |= CPSR_F => ]];',
+    'refusal_of: [[return NO_RIGHT => ]];',
+    'offset_of: if ([[target == MODE_HYP && mode_of(block) != MODE_HYP && exception != IRQ && exception != FIQ => not]])',
+    'act: [[case CODE_NOTE: => ]]',
+    'second_step: if (number == DONE [[&& => ||]] code == CODE_NOTE)',
+    'judge: if (n [[> => >=]] MOST_STEPS) {',
+]
+LIVING = 'LARGEST: [[[CODE_SVC => CODE_SMC]]] = { 0, 0 },'
+NO_MUTANT = 'is_one: return [[nothing => something]];'
+results = []
+
+
+def expect(name, held, seen=''):
+    results.append(bool(held))
+    print(f'ok      {name}' if held else f'FAILED  {name}: {seen}', flush=True)
+
+
+def mutants(*arguments):
+    told = subprocess.run([SCRIPT, *arguments], stdout=subprocess.PIPE, stderr=subprocess.STDOUT, check=False, text=True)
+    return told.returncode, told.stdout.splitlines()
+
+
+def try_project():
+    """With the project's own file."""
+    seen = mutants('--entries')
+    expect('each explained mutant can be made', seen[0] == 0, seen)
+    status, lines = mutants('--steps', '200000', '--traces', '2000', *KILLED, LIVING)
+    due = f'{len(KILLED) + 1} mutants, {len(KILLED)} killed, 1 survivors, all explained'
+    expect('chosen mutants are killed, an explained one lives', status == 0 and lines[-1] == due, lines)
+
+
+def try_file(path):
+    """With a file that explains the wrong one."""
+    with open(path, 'w', encoding='utf-8') as file:
+        file.write(f'A reason.\n    {KILLED[0]}\n')
+    status, lines = mutants('--steps', '20000', '--explained', path, KILLED[0], LIVING)
+    expect('a survivor without a reason is told', status == 1 and f'lives, and is not explained: {LIVING}' in lines, lines)
+    expect('a reason for one that is killed is told', f'is explained, and was killed: {KILLED[0]}' in lines, lines)
+    with open(path, 'w', encoding='utf-8') as file:
+        file.write(f'A reason.\n    {NO_MUTANT}\n')
+    status, lines = mutants('--entries', '--explained', path)
+    expect('a reason for none that can be made is told',
+           status == 1 and f'is explained, and cannot be made: {NO_MUTANT}' in lines, lines)
+
+
+try_project()
+with tempfile.TemporaryDirectory() as room:
+    try_file(os.path.join(room, 'mutants.txt'))
+print(f'{results.count(True)} passed, {results.count(False)} failed')
+sys.exit(0 if all(results) else 1)

@@ -1,0 +1,24 @@
+/*
+ * A step and a checker that are always wrong, to see what a comparison says of
+ * them.
+ */
+#include <stddef.h>
+#include <stdint.h>
+
+/* No number of document 01. */
+#define NO_NUMBER 99
+
+uint32_t wrong_step(uint8_t *block, size_t block_len,
+                    uint32_t code, uint32_t a, uint32_t b,
+                    uint8_t *answer, size_t answer_len)
+{
+    (void)block, (void)block_len, (void)code, (void)a, (void)b, (void)answer, (void)answer_len;
+    return NO_NUMBER;
+}
+
+uint32_t wrong_check(const uint8_t *trace, size_t trace_len,
+                     uint8_t *report, size_t report_len)
+{
+    (void)trace, (void)trace_len, (void)report, (void)report_len;
+    return NO_NUMBER;
+}
