@@ -1,46 +1,17 @@
 /*
- * console: judges the traces in files and prints one line for each.
- * The rules are the archive's; this file only reads, asks and prints.
+ * console: judges the traces in files and prints one line for each, or counts
+ * them.  This file only reads the arguments.
  */
-#define _POSIX_C_SOURCE 200809L
-
+#include "judge.h"
 #include "name.h"
-#include "page.h"
-#include "phrases.h"
-#include "pomurica.h"
-#include "tell.h"
 
-#include <errno.h>
-#include <fcntl.h>
-#include <stdbool.h>
 #include <stdio.h>
-#include <stdlib.h>
 #include <string.h>
-#include <time.h>
-#include <unistd.h>
-
-/* Exit statuses; of several the highest wins. */
-enum status {
-    ALL_ACCEPTED = 0,
-    ANY_REFUSED = 1,
-    TROUBLE = 2 /* bad usage, a file that cannot be read, a line that cannot be written */
-};
-
-/*
- * The most that is read of a file.  A trace has at most 65,535 Steps, so its
- * End lies within the first 13,107,192 bytes and no record that the checker
- * judges reaches further.  One byte more shows that something follows the End;
- * what it is, and what comes behind it, changes neither number nor place nor
- * Steps.
- */
-#define MOST_READ ((size_t)POMURICA_LONGEST_TRACE + 1)
-
-/* Progress is shown at most this often, in nanoseconds. */
-#define BETWEEN_PROGRESS INT64_C(100000000)
 
 static const char USAGE[] =
     "usage: console [--quiet] [--explain] [--trace] [--] FILE...\n"
     "       console --html [--] FILE > PAGE\n"
+    "       console --count [--totals TOTALS] [--quiet] [--] FILE...\n"
     "       console --help\n";
 
 static const char HELP[] =
@@ -61,61 +32,91 @@ static const char HELP[] =
     "  --trace   under each, list its Steps up to the first wrong one\n"
     "  --html    in place of lines, write a page for a browser: the verdict, the modes\n"
     "            by Step and what each Step changed; of one FILE, with no other option\n"
-    "  --quiet   print no line, only set the exit status; what goes wrong is still told\n"
+    "  --count   in place of lines for each, count the Steps of all accepted traces\n"
+    "            together; a refused trace adds nothing, and its line goes to standard\n"
+    "            error; with --quiet and --totals alone\n"
+    "  --totals TOTALS\n"
+    "            start from the counts in the file TOTALS, and write the new ones there\n"
+    "  --quiet   print no line, only set the exit status; what goes wrong is still told,\n"
+    "            with --count the refused traces too\n"
     "  --help    print this\n"
     "  --        end of the options: what follows are files\n"
     "\n"
-    "Exit status: 0 all accepted; 1 any refused; 2 bad usage, or a file that could\n"
-    "not be read (it is named, and the others are still judged).\n";
+    "The counts are lines of three numbers, one for each count that is not 0: the group,\n"
+    "the number within it and the count. Group 1 has Steps by event code, 0 for a code\n"
+    "that the rules do not know; 2 Steps by answer number; 3 entries by the mode that\n"
+    "they entered; 4 done interrupt checks by the exception that they took, 0 for none.\n"
+    "A trace with which a count would pass 4294967295 is refused with 13 FULL.\n"
+    "\n"
+    "TOTALS has those lines and nothing else; missing or empty, it is all zero. It is\n"
+    "written whenever the run gets to its end, whole and last of all, also if there is\n"
+    "nothing new or some FILE could not be read; not if it is no such file, or if the\n"
+    "counts could not be printed. Consoles with the same TOTALS wait for each other.\n"
+    "\n"
+    "Exit status: 0 all accepted; 1 any refused; 2 bad usage, a TOTALS that is none, or a\n"
+    "file that could not be read (it is named, and the others are still judged) or\n"
+    "written.\n";
 
-/* What the arguments ask for. */
-struct wish {
-    bool quiet, explain, trace, html, help;
-    char **files; /* the arguments that are files, in order */
-    size_t file_count;
-};
-
-/* The line of progress on standard error, if there is one. */
-struct progress {
-    bool wanted, shown;
-    int64_t shown_at;
-    size_t total;
-};
-
-static enum status worse(enum status one, enum status other)
+/* The flag that an option sets; NULL for what is no such option. */
+static bool *flag_of(struct wish *wish, const char *option)
 {
-    return one > other ? one : other;
+    const struct {
+        const char *name;
+        bool *flag;
+    } flags[] = {
+        { "--quiet", &wish->quiet }, { "--explain", &wish->explain }, { "--trace", &wish->trace },
+        { "--html", &wish->html },   { "--count", &wish->count },     { "--help", &wish->help },
+    };
+
+    for (size_t i = 0; i < sizeof flags / sizeof *flags; i++)
+        if (strcmp(option, flags[i].name) == 0)
+            return flags[i].flag;
+    return NULL;
+}
+
+/* Takes the argument of --totals, NULL where none follows. */
+static bool take_totals(struct wish *wish, const char *name)
+{
+    const bool right = name != NULL && strcmp(name, "-") != 0 && wish->totals == NULL;
+
+    if (right)
+        wish->totals = name;
+    else
+        fputs("console: --totals takes one file, which is read and written\n", stderr);
+    return right;
+}
+
+static bool take_option(struct wish *wish, const char *option)
+{
+    bool *const flag = flag_of(wish, option);
+
+    if (flag != NULL) {
+        *flag = true;
+        return true;
+    }
+    fputs("console: no option ", stderr);
+    put_name(stderr, option);
+    fputc('\n', stderr);
+    return false;
 }
 
 /* Sorts the arguments into options and files, which are moved to the front of argv. */
 static bool parse(int argc, char **argv, struct wish *wish)
 {
-    bool options = true;
+    bool options = true, right = true;
 
     *wish = (struct wish){ .files = argv };
-    for (int i = 1; i < argc; i++) {
-        if (!options || argv[i][0] != '-' || strcmp(argv[i], "-") == 0) {
+    for (int i = 1; i < argc && right; i++) {
+        if (!options || argv[i][0] != '-' || strcmp(argv[i], "-") == 0)
             wish->files[wish->file_count++] = argv[i];
-        } else if (strcmp(argv[i], "--") == 0) {
+        else if (strcmp(argv[i], "--") == 0)
             options = false;
-        } else if (strcmp(argv[i], "--quiet") == 0) {
-            wish->quiet = true;
-        } else if (strcmp(argv[i], "--explain") == 0) {
-            wish->explain = true;
-        } else if (strcmp(argv[i], "--trace") == 0) {
-            wish->trace = true;
-        } else if (strcmp(argv[i], "--html") == 0) {
-            wish->html = true;
-        } else if (strcmp(argv[i], "--help") == 0) {
-            wish->help = true;
-        } else {
-            fputs("console: no option ", stderr);
-            put_name(stderr, argv[i]);
-            fputc('\n', stderr);
-            return false;
-        }
+        else if (strcmp(argv[i], "--totals") == 0)
+            right = take_totals(wish, argv[++i]);
+        else
+            right = take_option(wish, argv[i]);
     }
-    return true;
+    return right;
 }
 
 /* Whether there is something to do, and it can be done at once; says why not. */
@@ -123,164 +124,24 @@ static bool is_possible(const struct wish *wish)
 {
     if (wish->help)
         return true;
-    if (wish->html && wish->file_count > 1)
-        fprintf(stderr, "console: --html takes one file: a page is about one trace\n");
+    if (wish->totals != NULL && !wish->count)
+        fputs("console: --totals goes with --count: it keeps counts\n", stderr);
+    else if (wish->count && (wish->html || wish->explain || wish->trace))
+        fputs("console: --count takes --quiet and --totals alone: it is about all traces together\n", stderr);
+    else if (wish->html && wish->file_count > 1)
+        fputs("console: --html takes one file: a page is about one trace\n", stderr);
     else if (wish->html && (wish->quiet || wish->explain || wish->trace))
-        fprintf(stderr, "console: --html takes no other option: the page has the verdict, the reason and the Steps\n");
+        fputs("console: --html takes no other option: the page has the verdict, the reason and the Steps\n", stderr);
     else
         return wish->file_count > 0;
     return false;
 }
 
-static int64_t now(void)
-{
-    struct timespec time = { 0, 0 };
-
-    clock_gettime(CLOCK_MONOTONIC, &time);
-    return time.tv_sec * INT64_C(1000000000) + time.tv_nsec;
-}
-
-static void show_progress(struct progress *progress, size_t judged)
-{
-    const int64_t time = progress->wanted ? now() : 0;
-
-    if (!progress->wanted || time - progress->shown_at < BETWEEN_PROGRESS)
-        return;
-    fprintf(stderr, "\r%zu of %zu files judged", judged, progress->total);
-    fflush(stderr);
-    progress->shown = true;
-    progress->shown_at = time;
-}
-
-/* Makes way for a line: standard output may be the same terminal. */
-static void hide_progress(struct progress *progress)
-{
-    if (!progress->shown)
-        return;
-    fprintf(stderr, "\r\033[K");
-    fflush(stderr);
-    progress->shown = false;
-}
-
-/* Names a file that cannot be read, with the system's reason. */
-static enum status complain(const char *name, int reason)
-{
-    fprintf(stderr, "console: ");
-    put_name(stderr, name);
-    fprintf(stderr, ": %s\n", strerror(reason));
-    return TROUBLE;
-}
-
-/* Reads until the end or until the bytes are full, in pieces of any size; 0, or the system's reason. */
-static int read_all(int file, uint8_t *bytes, size_t *length)
-{
-    *length = 0;
-    while (*length < MOST_READ) {
-        const ssize_t got = read(file, bytes + *length, MOST_READ - *length);
-
-        if (got == 0)
-            return 0;
-        if (got > 0)
-            *length += (size_t)got;
-        else if (errno != EINTR)
-            return errno;
-    }
-    return 0;
-}
-
-/* Reads a file, or standard input for `-`; 0, or the system's reason. */
-static int read_file(const char *name, uint8_t *bytes, size_t *length)
-{
-    int file, reason;
-
-    if (strcmp(name, "-") == 0)
-        return read_all(STDIN_FILENO, bytes, length);
-    do
-        file = open(name, O_RDONLY | O_CLOEXEC | O_NOCTTY);
-    while (file < 0 && errno == EINTR);
-    if (file < 0)
-        return errno;
-    reason = read_all(file, bytes, length);
-    close(file);
-    return reason;
-}
-
-/* Sends what was printed on its way.  A verdict that nobody gets must not look like one: the program ends. */
-static void send_output(void)
-{
-    if (fflush(stdout) == 0 && !ferror(stdout))
-        return;
-    fprintf(stderr, "console: standard output: %s\n", strerror(errno));
-    exit(TROUBLE);
-}
-
-/* Prints the verdict on a file, as one whole line; report has it in its first three words. */
-static void print_verdict(const char *name, const uint8_t *trace, const uint8_t *report)
-{
-    put_name(stdout, name);
-    fputs(": ", stdout);
-    tell_verdict(stdout, trace, report);
-    fputc('\n', stdout);
-}
-
-/* Prints what is asked for of a file that was read. */
-static void print_file(const char *name, const uint8_t *bytes, size_t length, const struct wish *wish,
-                       const uint8_t *explanation)
-{
-    if (wish->html)
-        write_page(stdout, name, bytes, length, explanation);
-    else
-        print_verdict(name, bytes, explanation);
-    if (wish->trace)
-        tell_steps(stdout, bytes, explanation);
-    if (wish->explain)
-        tell_explanation(stdout, bytes, length, explanation);
-    send_output();
-}
-
-/* Judges one file; bytes has room for MOST_READ. */
-static enum status judge_file(const char *name, uint8_t *bytes, const struct wish *wish,
-                              struct progress *progress)
-{
-    uint8_t explanation[POMURICA_EXPLANATION_SIZE];
-    size_t length = 0;
-    const int reason = read_file(name, bytes, &length);
-
-    if (reason != 0) {
-        hide_progress(progress);
-        return complain(name, reason);
-    }
-    pomurica_explain(bytes, length, explanation, sizeof explanation);
-    if (!wish->quiet) {
-        hide_progress(progress);
-        print_file(name, bytes, length, wish, explanation);
-    }
-    return pomurica_get_word(explanation, 0) == POMURICA_DONE ? ALL_ACCEPTED : ANY_REFUSED;
-}
-
-static enum status judge_files(const struct wish *wish, uint8_t *bytes)
-{
-    struct progress progress = {
-        .wanted = wish->file_count > 1 && isatty(STDERR_FILENO),
-        .shown_at = now(),
-        .total = wish->file_count,
-    };
-    enum status status = ALL_ACCEPTED;
-
-    for (size_t i = 0; i < wish->file_count; i++) {
-        status = worse(status, judge_file(wish->files[i], bytes, wish, &progress));
-        show_progress(&progress, i + 1);
-    }
-    hide_progress(&progress);
-    return status;
-}
-
 int main(int argc, char **argv)
 {
-    enum status status;
     struct wish wish;
-    uint8_t *bytes;
 
+    setvbuf(stderr, NULL, _IOLBF, BUFSIZ); /* whole lines, also of several consoles on one standard error */
     if (!parse(argc, argv, &wish) || !is_possible(&wish)) {
         fputs(USAGE, stderr);
         return TROUBLE;
@@ -291,12 +152,5 @@ int main(int argc, char **argv)
         send_output();
         return ALL_ACCEPTED;
     }
-    bytes = malloc(MOST_READ);
-    if (bytes == NULL) {
-        fprintf(stderr, "console: no memory for a trace of %zu bytes\n", MOST_READ);
-        return TROUBLE;
-    }
-    status = judge_files(&wish, bytes);
-    free(bytes);
-    return (int)status;
+    return (int)judge_files(&wish);
 }

@@ -8,7 +8,7 @@
  * A trace is what a unit records of its steps; the checker accepts it exactly
  * when the rules can have made it.
  *
- * The three functions are proved: for every input they return, give the one
+ * The five functions are proved: for every input they return, give the one
  * answer that the rules give, and write nothing but what is said here.  They
  * keep nothing between calls, take no memory and may be called from several
  * threads, each with buffers of its own.  A buffer may lie at any address: it
@@ -16,8 +16,8 @@
  *
  * The archive libconsole.a is x86-64 code for Linux: ELF, the System V calling
  * convention, position independent, for any x86-64 processor.  It defines the
- * three functions and no other name, calls nothing but the C library's memcpy,
- * and stands behind the objects that use it:
+ * five functions and no other name, calls nothing but the C library's memcpy
+ * and memset, and stands behind the objects that use it:
  *
  *     cc -I host program.c libconsole.a
  *
@@ -44,6 +44,8 @@ enum {
     POMURICA_ANSWER_SIZE = 8,
     POMURICA_REPORT_SIZE = 12,
     POMURICA_EXPLANATION_SIZE = 24,
+    POMURICA_COUNTS_SIZE = 512,
+    POMURICA_LINES_SIZE = 2048, /* room that is enough for the lines of any counts */
     POMURICA_START_SIZE = 184,
     POMURICA_STEP_SIZE = 200,
     POMURICA_END_SIZE = 8
@@ -85,7 +87,10 @@ enum pomurica_record_word {
 #define POMURICA_LONGEST_TRACE \
     (POMURICA_START_SIZE + POMURICA_MOST_STEPS * POMURICA_STEP_SIZE + POMURICA_END_SIZE)
 
-/* Answer numbers: 0 to 7 of a step, 0, 1 and 8 to 12 of the checker and of an explanation. */
+/*
+ * Answer numbers: 0 to 7 of a step; 0, 1 and 8 to 12 of the checker and of an
+ * explanation, and with 13 of a count; 0, 1 and 15 of the lines of counts.
+ */
 enum pomurica_number {
     POMURICA_DONE = 0,        /* the step was done; the trace is accepted */
     POMURICA_BAD_SIZE = 1,    /* a buffer has not its size; nothing was written */
@@ -99,7 +104,9 @@ enum pomurica_number {
     POMURICA_BAD_RECORD = 9,  /* length or kind not of the record due */
     POMURICA_BAD_COUNT = 10,  /* more than 65,535 Steps, or Start and End differ */
     POMURICA_WRONG_STEP = 11, /* not what the rules give from the block before */
-    POMURICA_TRAILING = 12    /* bytes behind the End */
+    POMURICA_TRAILING = 12,   /* bytes behind the End */
+    POMURICA_FULL = 13,       /* counting: a count would pass 4,294,967,295; nothing was counted */
+    POMURICA_NO_ROOM = 15     /* the room is too small for what is to be written; nothing was written */
 };
 
 /*
@@ -323,6 +330,54 @@ enum pomurica_part {
 uint32_t pomurica_explain(const uint8_t *trace, size_t trace_len,
                           uint8_t *explanation, size_t explanation_len);
 
+/*
+ * The counts: 128 little-endian words in 512 bytes, all 0 to begin with.  Number
+ * i of group g is word 32 * (g - 1) + i; words without a meaning stay as they are.
+ */
+enum pomurica_group {
+    POMURICA_GROUP_CODE = 1,   /* Steps by event code; a code that the rules do not know counts under 0 */
+    POMURICA_GROUP_ANSWER = 2, /* Steps by answer number: they add up to all Steps */
+    POMURICA_GROUP_TARGET = 3, /* entries by the mode that they entered, 16 to 31 (enum pomurica_mode) */
+    POMURICA_GROUP_TAKEN = 4,  /* done interrupt checks by what they took (enum pomurica_which); 0 for nothing */
+    POMURICA_GROUPS = 4,
+    POMURICA_GROUP_SIZE = 32
+};
+
+/*
+ * One trace more: what the Steps of an accepted trace add to the counts.
+ *
+ * trace   any bytes of any length; only read.
+ * counts  512 bytes.  An accepted trace adds to each word the count of its
+ *         class; any other answer leaves every byte.
+ *
+ * Returns POMURICA_DONE where the trace was counted.  A refused trace answers
+ * its own number, 8 to 12.  POMURICA_FULL, if any count would pass
+ * 4,294,967,295: then no word has changed.  POMURICA_BAD_SIZE, if counts_len is
+ * not 512.
+ */
+uint32_t pomurica_count(const uint8_t *trace, size_t trace_len,
+                        uint8_t *counts, size_t counts_len);
+
+/*
+ * The counts as lines of text: one for each count that is not 0, with the group,
+ * the number and the count in decimal, single spaces between them and a line end
+ * (0x0A) behind; groups rising, numbers rising within each.  No other byte is
+ * written, and no zero behind the text.
+ *
+ * counts  512 bytes; only read.
+ * lines   the room for the text: its first bytes become the text, the rest stays.
+ *         POMURICA_LINES_SIZE bytes are always enough.
+ * answer  8 bytes: the number, then how many bytes were written (0 for any
+ *         number but POMURICA_DONE), each a little-endian word.
+ *
+ * Returns the number.  POMURICA_BAD_SIZE, if counts_len is not 512 or answer_len
+ * not 8, writes nothing.  POMURICA_NO_ROOM, if lines_len is smaller than the
+ * text, writes the answer alone.
+ */
+uint32_t pomurica_count_lines(const uint8_t *counts, size_t counts_len,
+                              uint8_t *lines, size_t lines_len,
+                              uint8_t *answer, size_t answer_len);
+
 /* The word at a place, counted in words from 0, of a block, a record, an answer, a report or an explanation. */
 static inline uint32_t pomurica_get_word(const uint8_t *bytes, size_t place)
 {
@@ -360,6 +415,8 @@ static inline const char *pomurica_number_name(uint32_t number)
     case POMURICA_BAD_COUNT: return "BAD_COUNT";
     case POMURICA_WRONG_STEP: return "WRONG_STEP";
     case POMURICA_TRAILING: return "TRAILING";
+    case POMURICA_FULL: return "FULL";
+    case POMURICA_NO_ROOM: return "NO_ROOM";
     default: return "UNKNOWN";
     }
 }

@@ -8,19 +8,6 @@
 #include <stdbool.h>
 #include <string.h>
 
-/* The trace: where the parts of a record begin, from its first byte. */
-enum part {
-    HEADER_SIZE = 4,
-    START_COUNT = 4,
-    START_BLOCK = 8,
-    STEP_CODE = 4,
-    STEP_A = 8,
-    STEP_B = 12,
-    STEP_ANSWER = 16,
-    STEP_BLOCK = 24,
-    END_COUNT = 4
-};
-
 /* The trace: "n at most 65,535". */
 #define MOST_STEPS 65535
 

@@ -54,3 +54,16 @@ uint32_t pomurica_explain(const uint8_t *trace, size_t trace_len,
         explain_step(trace + pomurica_get_word(explanation, 1), explanation);
     return number;
 }
+
+uint32_t pomurica_count(const uint8_t *trace, size_t trace_len,
+                        uint8_t *counts, size_t counts_len)
+{
+    return second_count(trace, trace_len, counts, counts_len);
+}
+
+uint32_t pomurica_count_lines(const uint8_t *counts, size_t counts_len,
+                              uint8_t *lines, size_t lines_len,
+                              uint8_t *answer, size_t answer_len)
+{
+    return second_count_lines(counts, counts_len, lines, lines_len, answer, answer_len);
+}

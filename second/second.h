@@ -1,7 +1,8 @@
 /*
- * A second implementation of document 01, written from the papers alone, to
- * be held against the proved one.  Both functions return the number; neither
- * keeps anything between calls.  (NULL, 0) is an empty buffer.
+ * A second implementation of document 01, and of No. 1 of document 02, written
+ * from the papers alone, to be held against the proved one.  Each function
+ * returns the number; none keeps anything between calls.  (NULL, 0) is an empty
+ * buffer.
  */
 #ifndef SECOND_H
 #define SECOND_H
@@ -17,5 +18,14 @@ uint32_t second_step(uint8_t *block, size_t block_len,
 /* The trace: number, place and Steps into a report of 12 bytes; of another size it is BAD_SIZE. */
 uint32_t second_check(const uint8_t *trace, size_t trace_len,
                       uint8_t *report, size_t report_len);
+
+/* No. 1: what the Steps of an accepted trace add to counts of 512 bytes; any other number leaves them. */
+uint32_t second_count(const uint8_t *trace, size_t trace_len,
+                      uint8_t *counts, size_t counts_len);
+
+/* No. 1: counts as lines of text; number and length of the text into an answer of 8 bytes. */
+uint32_t second_count_lines(const uint8_t *counts, size_t counts_len,
+                            uint8_t *lines, size_t lines_len,
+                            uint8_t *answer, size_t answer_len);
 
 #endif

@@ -1,8 +1,9 @@
 /*
- * The worked cases of document 01, "Numbers to hold against it", a to l: each
- * is run and printed.  Exit status 1 if one differs.
+ * The worked cases of document 01, "Numbers to hold against it", a to l, and
+ * cases of our own for No. 1 of document 02: each is run and printed.  Exit
+ * status 1 if one differs.
  *
- *     cc -std=c11 -Wall -Wextra -Werror -O2 step.c check.c test.c -o test && ./test
+ *     cc -std=c11 -Wall -Wextra -Werror -O2 step.c check.c count.c test.c -o test && ./test
  */
 #include "second.h"
 #include "words.h"
@@ -84,12 +85,21 @@ static const struct worked_case CASES[] = {
       .unchanged = true },
 };
 
-/* Numbers to hold against it: how many of a to k, and with the three of l. */
+/* Numbers to hold against it: how many of a to k. */
 #define CASE_COUNT (sizeof CASES / sizeof CASES[0])
-#define CASES_AND_L ((unsigned)CASE_COUNT + 3)
+
+/* How many cases were run, and how many of them differ. */
+static unsigned run, differing;
+
+static void tell(bool right)
+{
+    printf("%s\n", right ? "" : "  DIFFERS");
+    run++;
+    differing += !right;
+}
 
 /* Numbers to hold against it: one of a to k; prints it, and whether it is as the paper has it. */
-static bool run_case(const struct worked_case *worked)
+static void run_case(const struct worked_case *worked)
 {
     uint8_t before[BLOCK_SIZE], block[BLOCK_SIZE], answer[ANSWER_SIZE];
     uint32_t number;
@@ -119,12 +129,11 @@ static bool run_case(const struct worked_case *worked)
         printf(", block %s", same ? "unchanged" : "CHANGED");
         right = right && same;
     }
-    printf("%s\n", right ? "" : "  DIFFERS");
-    return right;
+    tell(right);
 }
 
 /* Numbers to hold against it: one of l; prints it, and whether it is as the paper has it. */
-static bool run_trace(const char *name, const uint8_t *trace, size_t length,
+static void run_trace(const char *name, const uint8_t *trace, size_t length,
                       uint32_t number, uint32_t place, uint32_t steps)
 {
     uint8_t report[REPORT_SIZE];
@@ -135,34 +144,133 @@ static bool run_trace(const char *name, const uint8_t *trace, size_t length,
     returned = second_check(trace, length, report, sizeof report);
     right = returned == number && get_word(report) == number &&
             get_word(report + 4) == place && get_word(report + 8) == steps;
-    printf("%-12s  %u %u %u%s\n", name, (unsigned)get_word(report),
-           (unsigned)get_word(report + 4), (unsigned)get_word(report + 8),
-           right ? "" : "  DIFFERS");
-    return right;
+    printf("%-12s  %u %u %u", name, (unsigned)get_word(report),
+           (unsigned)get_word(report + 4), (unsigned)get_word(report + 8));
+    tell(right);
 }
 
 /* Numbers to hold against it: l, the shortest trace. */
-static unsigned run_l(void)
+static void run_l(void)
 {
     static const uint8_t SHORTEST[192] = {
         [0] = 0xB8, 0x00, 0x01, 0x00,
         [184] = 0x08, 0x00, 0x03, 0x00, 0x00, 0x00, 0x00, 0x00,
     };
-    unsigned differing = 0;
 
-    differing += !run_trace("l", SHORTEST, 192, DONE, 192, 0);
-    differing += !run_trace("l, cut", SHORTEST, 191, SHORT, 184, 0);
-    differing += !run_trace("l, empty", NULL, 0, SHORT, 0, 0);
-    return differing;
+    run_trace("l", SHORTEST, 192, DONE, 192, 0);
+    run_trace("l, cut", SHORTEST, 191, SHORT, 184, 0);
+    run_trace("l, empty", NULL, 0, SHORT, 0, 0);
+}
+
+/* No. 1: the events of a trace that begins in Non-secure Supervisor, each with what it comes to. */
+static const struct {
+    uint32_t code, a;
+} COUNTED[] = {
+    { CODE_INTERRUPT_CHECK, 4 },  /* IRQ: enters IRQ mode, 0x12 */
+    { CODE_INTERRUPT_CHECK, 4 },  /* I is set: nothing taken */
+    { CODE_HVC, 0 },              /* enters Hyp mode, 0x1A */
+    { CODE_SVC, 1 },              /* BAD_EVENT, under its own code */
+    { CODE_INTERRUPT_CHECK, 32 }, /* BAD_EVENT: not done, and so no check that took nothing */
+    { 13, 0 },                    /* BAD_EVENT, under 0 */
+    { CODE_BANKED_READ, 7 },      /* NO_REGISTER */
+};
+
+/* No. 1: what they add up to, once and twice. */
+static const char ONCE[] = "1 0 1\n1 2 1\n1 4 1\n1 9 3\n1 10 1\n2 0 3\n2 4 3\n2 6 1\n3 18 1\n3 26 1\n4 0 1\n4 3 1\n";
+static const char TWICE[] = "1 0 2\n1 2 2\n1 4 2\n1 9 6\n1 10 2\n2 0 6\n2 4 6\n2 6 2\n3 18 2\n3 26 2\n4 0 2\n4 3 2\n";
+
+/* The trace: the lengths of the records, and of the trace of COUNTED. */
+enum {
+    START_LENGTH = (int)START_BLOCK + BLOCK_SIZE,
+    STEP_LENGTH = (int)STEP_BLOCK + BLOCK_SIZE,
+    END_LENGTH = END_COUNT + 4,
+    COUNTED_STEPS = sizeof COUNTED / sizeof COUNTED[0],
+    COUNTED_LENGTH = START_LENGTH + COUNTED_STEPS * STEP_LENGTH + END_LENGTH
+};
+
+/* The trace: "two-byte length of the whole record, two-byte kind". */
+static void put_header(uint8_t *record, uint32_t length, uint32_t kind)
+{
+    put_word(record, length | kind << 16);
+}
+
+/* The trace: the records of COUNTED. */
+static void record_counted(uint8_t *trace)
+{
+    uint8_t block[BLOCK_SIZE] = { 0 };
+    uint8_t *record = trace;
+
+    put_word(block + 4 * SCR, SCR_NS);
+    put_word(block + 4 * CPSR, MODE_SUPERVISOR);
+    put_header(record, START_LENGTH, 1);
+    put_word(record + START_COUNT, COUNTED_STEPS);
+    memcpy(record + START_BLOCK, block, sizeof block);
+    record += START_LENGTH;
+    for (size_t i = 0; i < COUNTED_STEPS; i++, record += STEP_LENGTH) {
+        put_header(record, STEP_LENGTH, 2);
+        put_word(record + STEP_CODE, COUNTED[i].code);
+        put_word(record + STEP_A, COUNTED[i].a);
+        put_word(record + STEP_B, 0);
+        second_step(block, sizeof block, COUNTED[i].code, COUNTED[i].a, 0, record + STEP_ANSWER, ANSWER_SIZE);
+        memcpy(record + STEP_BLOCK, block, sizeof block);
+    }
+    put_header(record, END_LENGTH, 3);
+    put_word(record + END_COUNT, COUNTED_STEPS);
+}
+
+/* No. 1: counts the bytes, and prints the number; right if it is that one. */
+static void run_count(const char *name, const uint8_t *trace, size_t length, uint8_t *counts, uint32_t number)
+{
+    const uint32_t returned = second_count(trace, length, counts, COUNTS_SIZE);
+
+    printf("%-12s  number %u", name, (unsigned)returned);
+    tell(returned == number);
+}
+
+/* No. 1: prints how long the lines of the counts are; right if they are that text, and have no room in one byte fewer. */
+static void run_lines(const char *name, const uint8_t *counts, const char *text)
+{
+    const size_t length = strlen(text);
+    uint8_t lines[LINES_SIZE], answer[ANSWER_SIZE];
+    uint32_t number = second_count_lines(counts, COUNTS_SIZE, lines, length, answer, sizeof answer);
+    bool right = number == DONE && get_word(answer) == DONE && get_word(answer + 4) == length &&
+                 memcmp(lines, text, length) == 0;
+
+    printf("%-12s  lines of %u bytes", name, (unsigned)get_word(answer + 4));
+    if (length > 0) {
+        number = second_count_lines(counts, COUNTS_SIZE, lines, length - 1, answer, sizeof answer);
+        right = right && number == NO_ROOM && get_word(answer) == NO_ROOM && get_word(answer + 4) == 0;
+    }
+    tell(right);
+}
+
+/* No. 1: counts from nothing to the last that fits; the last count is that of IRQs taken. */
+static void run_counts(void)
+{
+    uint8_t trace[COUNTED_LENGTH], counts[COUNTS_SIZE] = { 0 };
+    uint8_t *last = counts + 4 * (32 * (4 - 1) + 3);
+
+    record_counted(trace);
+    run_lines("no counts", counts, "");
+    run_count("counts", trace, sizeof trace, counts, DONE);
+    run_lines("counts", counts, ONCE);
+    run_count("counts, cut", trace, sizeof trace - 1, counts, SHORT);
+    put_word(last, UINT32_MAX);
+    run_count("counts, full", trace, sizeof trace, counts, FULL);
+    put_word(last, 1);
+    run_lines("counts stay", counts, ONCE);
+    run_count("counts twice", trace, sizeof trace, counts, DONE);
+    run_lines("counts twice", counts, TWICE);
+    put_word(last, UINT32_MAX - 1);
+    run_count("counts, most", trace, sizeof trace, counts, DONE);
 }
 
 int main(void)
 {
-    unsigned differing = 0;
-
     for (size_t i = 0; i < CASE_COUNT; i++)
-        differing += !run_case(&CASES[i]);
-    differing += run_l();
-    printf("%u passed, %u failed\n", CASES_AND_L - differing, differing);
+        run_case(&CASES[i]);
+    run_l();
+    run_counts();
+    printf("%u passed, %u failed\n", run - differing, differing);
     return differing == 0 ? 0 : 1;
 }

@@ -1,6 +1,7 @@
 /*
- * The words of document 01: its names for places, modes, events, numbers and
- * bits, and how a word lies in bytes.
+ * The words of document 01: its names for places, modes, events, numbers, bits
+ * and the parts of a record, and how a word lies in bytes.  No. 1 is that of
+ * document 02.
  */
 #ifndef WORDS_H
 #define WORDS_H
@@ -108,7 +109,7 @@ enum line_bits {
     LINE_VIRQ = 16
 };
 
-/* Answer numbers: 0 to 7 of a step; 0 and 8 to 12 of the checker (The trace). */
+/* Answer numbers: 0 to 7 of a step; 0 and 8 to 12 of the checker (The trace); 13 and 15 of counts (No. 1). */
 enum number {
     DONE = 0,
     BAD_SIZE = 1,
@@ -122,14 +123,32 @@ enum number {
     BAD_RECORD = 9,
     BAD_COUNT = 10,
     WRONG_STEP = 11,
-    TRAILING = 12
+    TRAILING = 12,
+    FULL = 13,
+    NO_ROOM = 15
 };
 
-/* The state block, Answer numbers, The trace: sizes in bytes. */
+/* The state block, Answer numbers, The trace, No. 1: sizes in bytes. */
 enum size {
     BLOCK_SIZE = 4 * PLACES,
     ANSWER_SIZE = 8,
-    REPORT_SIZE = 12
+    REPORT_SIZE = 12,
+    COUNTS_SIZE = 512,
+    LINES_SIZE = 2048 /* enough for the lines of any counts */
+};
+
+/* The trace: where the parts of a record begin, from its first byte. */
+enum part {
+    HEADER_SIZE = 4,
+    START_COUNT = 4,
+    START_BLOCK = 8,
+    STEP_CODE = 4,
+    STEP_A = 8,
+    STEP_B = 12,
+    STEP_ANSWER = 16,
+    STEP_VALUE = 20,
+    STEP_BLOCK = 24,
+    END_COUNT = 4
 };
 
 /* The trace: two bytes, little-endian. */

@@ -7,7 +7,6 @@ too. Ends with `N passed, M failed`.
 """
 import itertools
 import os
-import pty
 import random
 import re
 import resource
@@ -21,64 +20,18 @@ from names import shown  # noqa: E402
 from page import Page  # noqa: E402
 from records import (  # noqa: E402
     BLOCK_SIZE, END_SIZE, SAMPLES, SHORTEST, START_SIZE, STEP_KIND, STEP_SIZE, accepted, long_trace, start_record)
+from runs import Runs, on_terminal, read, write  # noqa: E402
 from status import differing_fields  # noqa: E402
 
 USAGE = b'usage: console'
 WARNING = b'  warning: no Step was done, so the trace shows nothing of what the unit runs\n'
 
 KIND, FOLDER, LINES, COMMAND = sys.argv[1], sys.argv[2], sys.argv[3], sys.argv[4:]
-results = []
+runs = Runs(COMMAND)
+run, expect, expect_run = runs.run, runs.expect, runs.expect_run
 
 # Looking for leaks takes some 4 s a run on Arm, whatever the program does. The many runs do without; try_leaks looks.
 os.environ['ASAN_OPTIONS'] = 'detect_leaks=0'
-
-
-def run(*arguments, **options):
-    options.setdefault('stdin', subprocess.DEVNULL)
-    options.setdefault('stdout', subprocess.PIPE)
-    done = subprocess.run(COMMAND + list(arguments), stderr=subprocess.PIPE, timeout=600, **options)
-    return done.returncode, done.stdout, done.stderr
-
-
-def expect(name, held, seen=''):
-    results.append(held)
-    print(f'ok      {name}' if held else f'FAILED  {name}: {seen}', flush=True)
-
-
-def expect_run(name, arguments, status, out, err=b'', **options):
-    """The program ends so and prints just that; err is a part of what it tells, and nothing where it is empty."""
-    seen = run(*arguments, **options)
-    right_err = err in seen[2] if err else seen[2] == b''
-    expect(name, seen[0] == status and (seen[1] == out) and right_err, seen)
-
-
-def on_terminal(command):
-    """What a command writes to standard error when that is a terminal; standard output is none."""
-    master, slave = pty.openpty()
-    done = subprocess.Popen(command, shell=True, stdin=subprocess.DEVNULL, stdout=subprocess.DEVNULL, stderr=slave)
-    os.close(slave)
-    written = b''
-    while True:
-        try:
-            piece = os.read(master, 4096)
-        except OSError:  # how Linux tells that the other end is closed
-            break
-        if not piece:
-            break
-        written += piece
-    os.close(master)
-    return done.wait(), written
-
-
-def read(name):
-    with open(name, 'rb') as file:
-        return file.read()
-
-
-def write(name, content):
-    with open(name, 'wb') as file:
-        file.write(content)
-    return name
 
 
 def try_verdicts():
@@ -277,7 +230,7 @@ def try_pages():
 def limit_steps():
     """Steps of every code and of none, with operands, answer numbers and values at their limits and right behind them."""
     for code, a, (number, value) in itertools.product(
-            range(14), (3, 4, 31, 32, 43, 44, 63, 64), ((0, 6 << 16), (0, 7 << 16), (12, 0), (13, 0))):
+            range(14), (3, 4, 31, 32, 43, 44, 63, 64), ((0, 6 << 16), (0, 7 << 16), (15, 0), (16, 0))):
         yield struct.pack('<HHIIIII', STEP_SIZE, STEP_KIND, code, a, 0, number, value) + bytes(BLOCK_SIZE)
 
 
@@ -386,5 +339,4 @@ with tempfile.TemporaryDirectory() as room:
     if KIND == 'sanitized':
         try_leaks()
     os.chdir('/')
-print(f'{results.count(True)} passed, {results.count(False)} failed')
-sys.exit(0 if all(results) else 1)
+runs.end()

@@ -1,15 +1,16 @@
 /*
  * A mutant of the second implementation against the second implementation, on
  * the questions and traces that the comparisons use, up to the first
- * difference.
+ * difference: so many steps, so many traces to judge, and so many to count.
  *
- *     hunt STEPS TRACES SEED
+ *     hunt STEPS TRACES COUNTED SEED
  *
  * Status 0: no difference was found; 3: one was.  A mutant that does not come
  * to an end, or does what no step may, is ended by a signal.
  */
 #define _POSIX_C_SOURCE 200809L
 
+#include "counting.h"
 #include "edge.h"
 #include "question.h"
 #include "traces.h"
@@ -27,6 +28,8 @@ typedef uint32_t check_function(const uint8_t *, size_t, uint8_t *, size_t);
 /* The mutant: compiled from a changed copy under these names. */
 step_function mutant_step;
 check_function mutant_check;
+count_function mutant_count;
+lines_function mutant_count_lines;
 
 enum {
     FOUND = 3,
@@ -108,20 +111,69 @@ static bool does_longest_differ(struct chance *chance)
     return differ;
 }
 
+/* One trace, counted onto such counts. */
+static bool do_counts_differ(struct chance *chance, const uint8_t *trace, size_t length, const uint8_t *counts)
+{
+    const size_t counts_len = any_counts_size(chance);
+    const uint8_t *lent = lend_at_edge(trace, length);
+    struct counted ours, theirs;
+
+    call_count(second_count, lent, length, counts, counts_len, &ours);
+    call_count(mutant_count, lent, length, counts, counts_len, &theirs);
+    return count_difference(&ours, &theirs) != NULL;
+}
+
+/* The lines of such counts, in every kind of room. */
+static bool do_lines_differ(struct chance *chance, const uint8_t *counts)
+{
+    struct listed ours, theirs;
+    size_t length = 0;
+
+    for (uint32_t room = 0; room < ROOMS; room++) {
+        const struct sizes sizes = any_sizes(chance, (enum room)room, length);
+
+        call_lines(second_count_lines, counts, sizes, &ours);
+        call_lines(mutant_count_lines, counts, sizes, &theirs);
+        if (lines_difference(&ours, &theirs) != NULL)
+            return true;
+        if (room == ENOUGH)
+            length = get_word(bytes_of(&ours.answer) + 4);
+    }
+    return false;
+}
+
+static bool does_counting_differ(struct chance *chance, unsigned long traces)
+{
+    static uint8_t trace[MADE_SIZE], counts[LENT_MOST];
+    struct expected expected;
+
+    for (unsigned long i = 0; i < traces; i++) {
+        const size_t length = any_counted_trace(chance, trace, &expected);
+
+        if (i % A_FEW_TRACES == 0)
+            alarm(PATIENCE);
+        any_counts(chance, counts);
+        if (do_counts_differ(chance, trace, length, counts) || do_lines_differ(chance, counts))
+            return true;
+    }
+    return false;
+}
+
 int main(int argc, char **argv)
 {
     struct chance chance;
-    unsigned long steps, traces;
+    unsigned long steps, traces, counted;
 
-    if (argc != 4) {
-        fprintf(stderr, "usage: hunt STEPS TRACES SEED\n");
+    if (argc != 5) {
+        fprintf(stderr, "usage: hunt STEPS TRACES COUNTED SEED\n");
         return 2;
     }
     steps = strtoul(argv[1], NULL, 10);
     traces = strtoul(argv[2], NULL, 10);
-    chance.seed = strtoull(argv[3], NULL, 10);
+    counted = strtoul(argv[3], NULL, 10);
+    chance.seed = strtoull(argv[4], NULL, 10);
     open_edge(LONGEST);
-    if (do_steps_differ(&chance, steps) || do_traces_differ(&chance, traces))
+    if (do_steps_differ(&chance, steps) || do_traces_differ(&chance, traces) || does_counting_differ(&chance, counted))
         return FOUND;
     return traces != 0 && does_longest_differ(&chance) ? FOUND : 0;
 }

@@ -7,6 +7,7 @@ import tempfile
 
 SCRIPT = os.path.abspath(sys.argv[1])
 # B 1 allowed for each of codes 1 to 10; a mask not set, a refusal gone, a condition turned round, a label gone; a wrong count.
+# Of the counts: a code too few, refused Steps counted as done, a sum that just fits, room that just does.
 KILLED = [
     *(f'LARGEST: [CODE_{code}] = {{ {a}, [[0 => 1]] }},' for code, a in [
         ('UNDEFINED', 0), ('SVC', 0), ('SMC', 0), ('HVC', 0), ('PREFETCH_ABORT', 3), ('DATA_ABORT', 3), ('HYP_TRAP', 0),
@@ -17,6 +18,10 @@ KILLED = [
     'act: [[case CODE_NOTE: => ]]',
     'second_step: if (number == DONE [[&& => ||]] code == CODE_NOTE)',
     'judge: if (n [[> => >=]] MOST_STEPS) {',
+    'known_code: return code <= [[CODE_NOTE => CODE_BANKED_WRITE]] ? code : 0;',
+    'count_step: [[return => ]];',
+    'would_pass: if (more->word[i] [[> => >=]] UINT32_MAX - before->word[i])',
+    'second_count_lines: if (lines_len [[< => <=]] text.length)',
 ]
 LIVING = 'LARGEST: [[[CODE_SVC => CODE_SMC]]] = { 0, 0 },'
 NO_MUTANT = 'is_one: return [[nothing => something]];'

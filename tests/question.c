@@ -2,8 +2,6 @@
 
 #include "../second/words.h"
 
-#include <string.h>
-
 void ask(struct chance *chance, struct question *question)
 {
     any_block(chance, question->block);
@@ -16,7 +14,7 @@ void ask(struct chance *chance, struct question *question)
     any_bytes(chance, question->block, sizeof question->block);
     any_bytes(chance, question->answer, sizeof question->answer);
     if (!one_in(chance, 3))
-        question->block_len = any_below(chance, LENT_MOST - 16);
+        question->block_len = any_below(chance, ASKED_MOST - 16);
     if (!one_in(chance, 3))
         question->answer_len = any_below(chance, 24);
 }
@@ -33,11 +31,6 @@ void call_step(step_function *step, const struct question *question, struct call
                         answer, question->answer_len);
     call->guards_kept = take_back(&call->block);
     call->guards_kept = take_back(&call->answer) && call->guards_kept;
-}
-
-static bool are_same(const struct lent *one, const struct lent *other)
-{
-    return memcmp(bytes_of(one), bytes_of(other), one->length) == 0;
 }
 
 const char *difference(const struct call *one, const struct call *other)

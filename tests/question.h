@@ -12,8 +12,13 @@
 #include <stddef.h>
 #include <stdint.h>
 
+/* Bytes of a block or an answer that are at hand, for sizes that may be wrong. */
+enum {
+    ASKED_MOST = 256
+};
+
 struct question {
-    uint8_t block[LENT_MOST], answer[LENT_MOST];
+    uint8_t block[ASKED_MOST], answer[ASKED_MOST];
     size_t block_len, answer_len;
     struct event event;
 };

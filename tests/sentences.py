@@ -14,7 +14,7 @@ def any_of(*patterns):
 # The parts of sentences: numbers, names, and what is told of a Step.
 NUMBER, COUNT, BYTE, WORD = '[0-9]+', '[0-9]{1,3}(,[0-9]{3})*', '0x[0-9A-F]{2}', '0x[0-9A-F]{8}'
 ANSWER = f'{NUMBER} ' + any_of(*'DONE BAD_SIZE BAD_MODE BAD_STATE BAD_EVENT NOT_HERE NO_REGISTER NO_RIGHT SHORT BAD_RECORD '
-                               'BAD_COUNT WRONG_STEP TRAILING UNKNOWN'.split())
+                               'BAD_COUNT WRONG_STEP TRAILING FULL NO_ROOM UNKNOWN'.split())
 REGISTER = any_of(*REGISTERS)
 BANKED = any_of(*REGISTERS[:REGISTERS.index('CPSR')], r'no register \(R [01] SYSm 0x[01][0-9A-F]\)')
 RECORD = any_of('the Start', 'a Step', 'the End')

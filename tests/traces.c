@@ -32,10 +32,8 @@ static void put_head(uint8_t *record, uint32_t length, uint32_t kind)
 }
 
 /* One Step record: the event on the block, which moves on. */
-static void record_step(struct chance *chance, uint8_t *step, uint8_t *block)
+static void record_step(struct event event, uint8_t *step, uint8_t *block)
 {
-    const struct event event = any_event(chance, block);
-
     put_head(step, STEP_SIZE, STEP_KIND);
     put_word(step + EVENT_AT, event.code);
     put_word(step + EVENT_AT + 4, event.a);
@@ -44,7 +42,15 @@ static void record_step(struct chance *chance, uint8_t *step, uint8_t *block)
     memcpy(step + STEP_BLOCK_AT, block, BLOCK_SIZE);
 }
 
-size_t record_trace(struct chance *chance, uint32_t n, uint8_t *trace)
+/* An event for the block as it stands. */
+typedef struct event event_function(struct chance *, const uint8_t *);
+
+static struct event any_check(struct chance *chance, const uint8_t *block)
+{
+    return event_of(chance, CODE_INTERRUPT_CHECK, block);
+}
+
+static size_t record_events(struct chance *chance, event_function *next, uint32_t n, uint8_t *trace)
 {
     uint8_t block[BLOCK_SIZE];
     uint8_t *record = trace;
@@ -55,10 +61,20 @@ size_t record_trace(struct chance *chance, uint32_t n, uint8_t *trace)
     memcpy(record + START_BLOCK_AT, block, BLOCK_SIZE);
     record += START_SIZE;
     for (uint32_t i = 0; i < n; i++, record += STEP_SIZE)
-        record_step(chance, record, block);
+        record_step(next(chance, block), record, block);
     put_head(record, END_SIZE, END_KIND);
     put_word(record + COUNT_AT, n);
     return (size_t)(record - trace) + END_SIZE;
+}
+
+size_t record_trace(struct chance *chance, uint32_t n, uint8_t *trace)
+{
+    return record_events(chance, any_event, n, trace);
+}
+
+size_t record_checks(struct chance *chance, uint32_t n, uint8_t *trace)
+{
+    return record_events(chance, any_check, n, trace);
 }
 
 /* Records by number: 0 is Start, 1 to n the Steps, n + 1 End. */

@@ -44,8 +44,9 @@ enum {
     MADE_SIZE = 2 * (START_SIZE + MADE_STEPS * STEP_SIZE + END_SIZE)
 };
 
-/* An honest trace of n Steps; gives its length. */
+/* An honest trace of n Steps, and one of n interrupt checks; gives its length. */
 size_t record_trace(struct chance *chance, uint32_t n, uint8_t *trace);
+size_t record_checks(struct chance *chance, uint32_t n, uint8_t *trace);
 
 /* A trace of chance, damaged so; gives its length. */
 size_t make_trace(struct chance *chance, enum damage damage, uint8_t *trace,

@@ -1,6 +1,6 @@
 /*
- * A step and a checker that are always wrong, to see what a comparison says of
- * them.
+ * A step, a checker and a count that are always wrong, to see what a comparison
+ * says of them.
  */
 #include <stddef.h>
 #include <stdint.h>
@@ -20,5 +20,20 @@ uint32_t wrong_check(const uint8_t *trace, size_t trace_len,
                      uint8_t *report, size_t report_len)
 {
     (void)trace, (void)trace_len, (void)report, (void)report_len;
+    return NO_NUMBER;
+}
+
+uint32_t wrong_count(const uint8_t *trace, size_t trace_len,
+                     uint8_t *counts, size_t counts_len)
+{
+    (void)trace, (void)trace_len, (void)counts, (void)counts_len;
+    return NO_NUMBER;
+}
+
+uint32_t wrong_lines(const uint8_t *counts, size_t counts_len,
+                     uint8_t *lines, size_t lines_len,
+                     uint8_t *answer, size_t answer_len)
+{
+    (void)counts, (void)counts_len, (void)lines, (void)lines_len, (void)answer, (void)answer_len;
     return NO_NUMBER;
 }

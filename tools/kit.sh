@@ -27,9 +27,11 @@ archive=$root/target/staticlib/libconsole.a
 verdict=$root/target/bin/verdict
 built=$root/target/host
 
-# The console program, which both ./console and ./test build; of its files, those of the page.
+# The console program, which both ./console and ./test build; of its files, those of the page, and those that find words and
+# pictures for a trace.
 page_sources='host/page.c host/timeline.c host/picture.c host/columns.c host/listing.c host/count.c'
-console_sources="host/console.c host/tell.c $page_sources host/name.c host/status.c host/phrases.c"
+telling_sources="host/tell.c $page_sources host/name.c host/status.c host/phrases.c"
+console_sources="host/console.c host/judge.c host/totals.c host/input.c host/complain.c $telling_sources"
 
 emulator=
 [ ! -x "$tools/bin/qemu-x86_64" ] || emulator=$tools/bin/qemu-x86_64

@@ -149,11 +149,14 @@ number-is b e = by (refusal b e is DONE) refl
         done-number b (e .code) (e .a) (e .b) (passed b e z) ∙ sym z
     by false h = refl
 
+pub number-small : (b : List ℕ) (e : Event) → answer b e .number < 8
+number-small b e = rw (number-is b e) (refusal-number b e)
+
 pub number-fits : (b : List ℕ) (e : Event) → answer b e .number < 2 ^ 32
-number-fits b e = let n = refusal-number b e in rw (number-is b e) (omega arith)
+number-fits b e = omega (arith, number-small b e)
 
 -- values are words
-which-small : (x : Exception) → which x < 7
+pub which-small : (x : Exception) → which x < 7
 which-small Synchronous = lit< tt
 which-small SError = lit< tt
 which-small Fiq = lit< tt

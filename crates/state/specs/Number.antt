@@ -41,3 +41,10 @@ WRONG-STEP = 11
 
 abbrev pub TRAILING : ℕ
 TRAILING = 12
+
+-- the counts' (document 02, No. 1), and of who writes into a lent buffer (No. 7)
+abbrev pub FULL : ℕ
+FULL = 13
+
+abbrev pub NO-ROOM : ℕ
+NO-ROOM = 15

@@ -1,0 +1,10 @@
+pub mod Bumping
+pub mod Codes
+pub mod Tallying
+pub mod Adding
+pub mod Reading
+pub mod Summing
+pub mod Answered
+pub mod Pushing
+pub mod Lining
+pub mod Theorems
