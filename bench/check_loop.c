@@ -16,8 +16,6 @@
 #include <stdio.h>
 #include <string.h>
 
-#define TRACE_SIZE (POMURICA_START_SIZE + STEPS * POMURICA_STEP_SIZE + POMURICA_END_SIZE)
-
 /* Where the parts of a Step begin. */
 enum {
     EVENT_AT = 4,

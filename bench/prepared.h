@@ -1,11 +1,12 @@
 /*
- * What the two counted programs share: cases prepared by chance, kept in a
+ * What the counted programs share: cases prepared by chance, kept in a
  * file, so that the counted run does little but the calls; and timing.
  */
 #ifndef PREPARED_H
 #define PREPARED_H
 
 #include "../tests/chance.h"
+#include "pomurica.h"
 
 #include <stdbool.h>
 #include <stddef.h>
@@ -13,6 +14,9 @@
 
 /* Steps of a run. */
 #define STEPS 12000
+
+/* The bytes of the trace that has them. */
+#define TRACE_SIZE (POMURICA_START_SIZE + STEPS * POMURICA_STEP_SIZE + POMURICA_END_SIZE)
 
 /* The block that is lent and an event on it. */
 struct step_case {

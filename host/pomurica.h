@@ -8,15 +8,15 @@
  * A trace is what a unit records of its steps; the checker accepts it exactly
  * when the rules can have made it.
  *
- * The five functions are proved: for every input they return, give the one
+ * The six functions are proved: for every input they return, give the one
  * answer that the rules give, and write nothing but what is said here.  They
  * keep nothing between calls, take no memory and may be called from several
- * threads, each with buffers of its own.  A buffer may lie at any address: it
- * is read and written as bytes, and needs no alignment.
+ * threads, each with buffers of its own.  A buffer of bytes may lie at any
+ * address: it is read and written as bytes, and needs no alignment.
  *
  * The archive libconsole.a is x86-64 code for Linux: ELF, the System V calling
  * convention, position independent, for any x86-64 processor.  It defines the
- * five functions and no other name, calls nothing but the C library's memcpy
+ * six functions and no other name, calls nothing but the C library's memcpy
  * and memset, and stands behind the objects that use it:
  *
  *     cc -I host program.c libconsole.a
@@ -24,7 +24,7 @@
  * Outside the proof, and so up to the caller:
  *   - a pointer and its length name memory that is there.  A length of 0 goes
  *     with any pointer, NULL among them; NULL with a length above 0 does not;
- *   - the two buffers of one call do not overlap, and nobody else writes them
+ *   - the buffers of one call do not overlap, and nobody else writes them
  *     while the call runs;
  *   - the small inline functions of this header, which are plain C.
  */
@@ -287,6 +287,33 @@ enum pomurica_told_word {
 uint32_t pomurica_step(uint8_t *block, size_t block_len,
                        uint32_t code, uint32_t a, uint32_t b,
                        uint8_t *answer, size_t answer_len);
+
+/* An event and an answer as structs of words, for many at a time.  They lie as the processor's own words do. */
+struct pomurica_event {
+    uint32_t code, a, b;
+};
+
+struct pomurica_answer {
+    uint32_t number, value;
+};
+
+/*
+ * Many steps: the events one after another on the block, each with its answer.
+ *
+ * events   events_len of them; only read.
+ * answers  as many: each becomes what pomurica_step answers its event, done in
+ *          this order.  An event that is refused has its number and the value 0,
+ *          changes nothing, and the rest go on.
+ * block    176 bytes: the state after all events.
+ *
+ * The lengths of events and answers count elements, not bytes, and a pointer is
+ * aligned as its struct is.  Returns POMURICA_DONE, also for no events, and
+ * whatever each of them answers.  POMURICA_BAD_SIZE, if the lengths differ or
+ * block_len is not 176: then no element and no byte has changed.
+ */
+uint32_t pomurica_batch(const struct pomurica_event *events, size_t events_len,
+                        struct pomurica_answer *answers, size_t answers_len,
+                        uint8_t *block, size_t block_len);
 
 /*
  * The checker: whether the bytes are the trace of some start block and some

@@ -14,6 +14,13 @@ uint32_t pomurica_step(uint8_t *block, size_t block_len,
     return second_step(block, block_len, code, a, b, answer, answer_len);
 }
 
+uint32_t pomurica_batch(const struct pomurica_event *events, size_t events_len,
+                        struct pomurica_answer *answers, size_t answers_len,
+                        uint8_t *block, size_t block_len)
+{
+    return second_batch(events, events_len, answers, answers_len, block, block_len);
+}
+
 uint32_t pomurica_check(const uint8_t *trace, size_t trace_len,
                         uint8_t *report, size_t report_len)
 {

@@ -1,8 +1,8 @@
 /*
- * A second implementation of document 01, and of No. 1 of document 02, written
- * from the papers alone, to be held against the proved one.  Each function
- * returns the number; none keeps anything between calls.  (NULL, 0) is an empty
- * buffer.
+ * A second implementation of document 01, and of No. 1 and No. 2 of document
+ * 02, written from the papers alone, to be held against the proved one.  Each
+ * function returns the number; none keeps anything between calls.  (NULL, 0) is
+ * an empty buffer, and an empty list.
  */
 #ifndef SECOND_H
 #define SECOND_H
@@ -14,6 +14,13 @@
 uint32_t second_step(uint8_t *block, size_t block_len,
                      uint32_t code, uint32_t a, uint32_t b,
                      uint8_t *answer, size_t answer_len);
+
+/* No. 2: a list of events, an answer for each, and one block; what lies in them is said in host/pomurica.h. */
+struct pomurica_event;
+struct pomurica_answer;
+uint32_t second_batch(const struct pomurica_event *events, size_t events_len,
+                      struct pomurica_answer *answers, size_t answers_len,
+                      uint8_t *block, size_t block_len);
 
 /* The trace: number, place and Steps into a report of 12 bytes; of another size it is BAD_SIZE. */
 uint32_t second_check(const uint8_t *trace, size_t trace_len,

@@ -1,12 +1,14 @@
 /*
  * The worked cases of document 01, "Numbers to hold against it", a to l, and
- * cases of our own for No. 1 of document 02: each is run and printed.  Exit
- * status 1 if one differs.
+ * cases of our own for No. 1 and No. 2 of document 02: each is run and printed.
+ * Exit status 1 if one differs.
  *
- *     cc -std=c11 -Wall -Wextra -Werror -O2 step.c check.c count.c test.c -o test && ./test
+ *     cc -std=c11 -Wall -Wextra -Werror -O2 -I../host step.c batch.c check.c count.c test.c -o test && ./test
  */
 #include "second.h"
 #include "words.h"
+
+#include "pomurica.h"
 
 #include <stdbool.h>
 #include <stdio.h>
@@ -265,12 +267,121 @@ static void run_counts(void)
     run_count("counts, most", trace, sizeof trace, counts, DONE);
 }
 
+/* No. 2: a list that begins in Non-secure Supervisor, as case a does. */
+static const struct pomurica_event EVENTS[] = {
+    { CODE_INTERRUPT_CHECK, LINE_IRQ, 0 },
+    { CODE_SVC, 1, 0 },
+    { CODE_INTERRUPT_CHECK, LINE_IRQ, 0 },
+    { CODE_NOTE, PC, 0x9000 },
+    { CODE_HVC, 0, 0 },
+    { CODE_BANKED_READ, 31, 0 },
+    { CODE_BANKED_READ, 30, 0 },
+};
+
+enum {
+    LISTED = sizeof EVENTS / sizeof EVENTS[0]
+};
+
+/* No. 2: what single steps in order answer. */
+static const struct pomurica_answer ANSWERS[LISTED] = {
+    { DONE, 0x31218 }, /* case a: enters IRQ mode */
+    { BAD_EVENT, 0 },
+    { DONE, 0 },       /* I is set by the entry: nothing taken */
+    { DONE, 0 },
+    { DONE, 0x1A14 },  /* enters Hyp mode, from the PC that was noted */
+    { NO_RIGHT, 0 },   /* SP_hyp, from Hyp */
+    { DONE, 0x9004 },  /* ELR_hyp */
+};
+
+/* No. 2: the words that they leave in the block. */
+static const struct named AFTER[] = { { LR_irq, 0x8004 }, { ELR_hyp, 0x9004 }, { CPSR, 0x1DA }, { PC, 0x14 } };
+
+/* No. 2: the block that the list begins with, in a mode. */
+static void put_first_block(uint8_t *block, uint32_t mode)
+{
+    memset(block, 0, BLOCK_SIZE);
+    put_word(block + 4 * SCR, SCR_NS);
+    put_word(block + 4 * CPSR, mode);
+    put_word(block + 4 * PC, 0x8000);
+    put_word(block + 4 * VBAR_NS, 0x10000000);
+}
+
+/* No. 2: the whole list, from Supervisor. */
+static void run_list(void)
+{
+    struct pomurica_answer answers[LISTED];
+    uint8_t block[BLOCK_SIZE];
+    uint32_t number;
+    bool right;
+
+    put_first_block(block, MODE_SUPERVISOR);
+    number = second_batch(EVENTS, LISTED, answers, LISTED, block, sizeof block);
+    right = number == DONE && memcmp(answers, ANSWERS, sizeof answers) == 0;
+    printf("%-12s  number %u", "batch", (unsigned)number);
+    for (size_t i = 0; i < sizeof AFTER / sizeof AFTER[0]; i++) {
+        const uint32_t word = get_word(block + 4 * AFTER[i].place);
+
+        printf(", place %u 0x%X", (unsigned)AFTER[i].place, (unsigned)word);
+        right = right && word == AFTER[i].word;
+    }
+    tell(right);
+}
+
+/* No. 2: a block without a known mode refuses each event, and the batch is DONE. */
+static void run_list_without_mode(void)
+{
+    struct pomurica_answer answers[LISTED];
+    uint8_t before[BLOCK_SIZE], block[BLOCK_SIZE];
+    uint32_t number;
+    bool right;
+
+    put_first_block(before, 0);
+    memcpy(block, before, sizeof block);
+    number = second_batch(EVENTS, LISTED, answers, LISTED, block, sizeof block);
+    right = number == DONE && memcmp(before, block, sizeof block) == 0;
+    for (size_t i = 0; i < LISTED; i++)
+        right = right && answers[i].number == BAD_MODE && answers[i].value == 0;
+    printf("%-12s  number %u, first answer %u", "batch, mode", (unsigned)number, (unsigned)answers[0].number);
+    tell(right);
+}
+
+/* No. 2: lengths with which no answer and no byte changes. */
+static void run_lengths(const char *name, size_t events_len, size_t answers_len, size_t block_len, uint32_t number)
+{
+    struct pomurica_answer before[LISTED], answers[LISTED];
+    uint8_t first[BLOCK_SIZE + 1] = { 0 }, block[BLOCK_SIZE + 1];
+    uint32_t returned;
+
+    memset(before, 0xAA, sizeof before);
+    memcpy(answers, before, sizeof answers);
+    put_first_block(first, MODE_SUPERVISOR);
+    memcpy(block, first, sizeof block);
+    returned = second_batch(events_len == 0 ? NULL : EVENTS, events_len, answers_len == 0 ? NULL : answers, answers_len,
+                            block, block_len);
+    printf("%-12s  number %u", name, (unsigned)returned);
+    tell(returned == number && memcmp(answers, before, sizeof answers) == 0 && memcmp(block, first, sizeof block) == 0);
+}
+
+/* No. 2: "an empty list is otherwise DONE". */
+static void run_batches(void)
+{
+    run_list();
+    run_list_without_mode();
+    run_lengths("batch, none", 0, 0, BLOCK_SIZE, DONE);
+    run_lengths("batch, fewer", LISTED, LISTED - 1, BLOCK_SIZE, BAD_SIZE);
+    run_lengths("batch, more", LISTED - 1, LISTED, BLOCK_SIZE, BAD_SIZE);
+    run_lengths("batch, 175", LISTED, LISTED, BLOCK_SIZE - 1, BAD_SIZE);
+    run_lengths("batch, 177", LISTED, LISTED, BLOCK_SIZE + 1, BAD_SIZE);
+    run_lengths("none, 175", 0, 0, BLOCK_SIZE - 1, BAD_SIZE);
+}
+
 int main(void)
 {
     for (size_t i = 0; i < CASE_COUNT; i++)
         run_case(&CASES[i]);
     run_l();
     run_counts();
+    run_batches();
     printf("%u passed, %u failed\n", run - differing, differing);
     return differing == 0 ? 0 : 1;
 }

@@ -34,6 +34,10 @@ SAME(4 * POMURICA_STEP_NUMBER, STEP_ANSWER);
 SAME(4 * POMURICA_STEP_VALUE, STEP_VALUE);
 SAME(4 * POMURICA_STEP_BLOCK, STEP_BLOCK);
 
+/* The structs of a batch are their words, without a gap. */
+SAME(sizeof(struct pomurica_event), 3 * sizeof(uint32_t));
+SAME(sizeof(struct pomurica_answer), ANSWER_SIZE);
+
 SAME(POMURICA_COUNTS_SIZE, 4 * POMURICA_GROUPS * POMURICA_GROUP_SIZE);
 SAME(POMURICA_FULL, FULL);
 SAME(POMURICA_NO_ROOM, NO_ROOM);

@@ -1,15 +1,17 @@
 /*
  * A mutant of the second implementation against the second implementation, on
  * the questions and traces that the comparisons use, up to the first
- * difference: so many steps, so many traces to judge, and so many to count.
+ * difference: so many steps, so many lists of events, so many traces to judge,
+ * and so many to count.
  *
- *     hunt STEPS TRACES COUNTED SEED
+ *     hunt STEPS LISTS TRACES COUNTED SEED
  *
  * Status 0: no difference was found; 3: one was.  A mutant that does not come
  * to an end, or does what no step may, is ended by a signal.
  */
 #define _POSIX_C_SOURCE 200809L
 
+#include "any_list.h"
 #include "counting.h"
 #include "edge.h"
 #include "question.h"
@@ -27,6 +29,7 @@ typedef uint32_t check_function(const uint8_t *, size_t, uint8_t *, size_t);
 
 /* The mutant: compiled from a changed copy under these names. */
 step_function mutant_step;
+batch_function mutant_batch;
 check_function mutant_check;
 count_function mutant_count;
 lines_function mutant_count_lines;
@@ -35,6 +38,7 @@ enum {
     FOUND = 3,
     PATIENCE = 3, /* seconds, for what takes milliseconds */
     A_FEW_STEPS = 4096,
+    A_FEW_LISTS = 64,
     A_FEW_TRACES = 64,
     MOST_STEPS = 65535,
     LONGEST = START_SIZE + MOST_STEPS * STEP_SIZE + END_SIZE
@@ -52,6 +56,23 @@ static bool do_steps_differ(struct chance *chance, unsigned long steps)
         call_step(second_step, &question, &ours);
         call_step(mutant_step, &question, &theirs);
         if (difference(&ours, &theirs) != NULL)
+            return true;
+    }
+    return false;
+}
+
+static bool do_lists_differ(struct chance *chance, unsigned long lists)
+{
+    static struct list list;
+    static struct batched ours, theirs;
+
+    for (unsigned long i = 0; i < lists; i++) {
+        if (i % A_FEW_LISTS == 0)
+            alarm(PATIENCE);
+        any_list(chance, &list);
+        call_batch(second_batch, &list, &ours);
+        call_batch(mutant_batch, &list, &theirs);
+        if (batch_difference(&ours, &theirs) != NULL)
             return true;
     }
     return false;
@@ -162,18 +183,20 @@ static bool does_counting_differ(struct chance *chance, unsigned long traces)
 int main(int argc, char **argv)
 {
     struct chance chance;
-    unsigned long steps, traces, counted;
+    unsigned long steps, lists, traces, counted;
 
-    if (argc != 5) {
-        fprintf(stderr, "usage: hunt STEPS TRACES COUNTED SEED\n");
+    if (argc != 6) {
+        fprintf(stderr, "usage: hunt STEPS LISTS TRACES COUNTED SEED\n");
         return 2;
     }
     steps = strtoul(argv[1], NULL, 10);
-    traces = strtoul(argv[2], NULL, 10);
-    counted = strtoul(argv[3], NULL, 10);
-    chance.seed = strtoull(argv[4], NULL, 10);
+    lists = strtoul(argv[2], NULL, 10);
+    traces = strtoul(argv[3], NULL, 10);
+    counted = strtoul(argv[4], NULL, 10);
+    chance.seed = strtoull(argv[5], NULL, 10);
     open_edge(LONGEST);
-    if (do_steps_differ(&chance, steps) || do_traces_differ(&chance, traces) || does_counting_differ(&chance, counted))
+    if (do_steps_differ(&chance, steps) || do_lists_differ(&chance, lists) || do_traces_differ(&chance, traces) ||
+        does_counting_differ(&chance, counted))
         return FOUND;
     return traces != 0 && does_longest_differ(&chance) ? FOUND : 0;
 }

@@ -7,6 +7,7 @@ import tempfile
 
 SCRIPT = os.path.abspath(sys.argv[1])
 # B 1 allowed for each of codes 1 to 10; a mask not set, a refusal gone, a condition turned round, a label gone; a wrong count.
+# Of the batch: an answer too many, more events than answers, an event left out.
 # Of the counts: a code too few, refused Steps counted as done, a sum that just fits, room that just does.
 KILLED = [
     *(f'LARGEST: [CODE_{code}] = {{ {a}, [[0 => 1]] }},' for code, a in [
@@ -18,6 +19,9 @@ KILLED = [
     'act: [[case CODE_NOTE: => ]]',
     'second_step: if (number == DONE [[&& => ||]] code == CODE_NOTE)',
     'judge: if (n [[> => >=]] MOST_STEPS) {',
+    'second_batch: for (size_t i = 0; i [[< => <=]] events_len; i++)',
+    'second_batch: if (events_len [[!= => <]] answers_len || block_len != BLOCK_SIZE)',
+    'second_batch: for (size_t i = [[0 => 1]]; i < events_len; i++)',
     'known_code: return code <= [[CODE_NOTE => CODE_BANKED_WRITE]] ? code : 0;',
     'count_step: [[return => ]];',
     'would_pass: if (more->word[i] [[> => >=]] UINT32_MAX - before->word[i])',

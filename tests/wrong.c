@@ -1,7 +1,9 @@
 /*
- * A step, a checker and a count that are always wrong, to see what a comparison
- * says of them.
+ * A step, a batch, a checker and a count that are always wrong, to see what a
+ * comparison says of them.
  */
+#include "pomurica.h"
+
 #include <stddef.h>
 #include <stdint.h>
 
@@ -13,6 +15,14 @@ uint32_t wrong_step(uint8_t *block, size_t block_len,
                     uint8_t *answer, size_t answer_len)
 {
     (void)block, (void)block_len, (void)code, (void)a, (void)b, (void)answer, (void)answer_len;
+    return NO_NUMBER;
+}
+
+uint32_t wrong_batch(const struct pomurica_event *events, size_t events_len,
+                     struct pomurica_answer *answers, size_t answers_len,
+                     uint8_t *block, size_t block_len)
+{
+    (void)events, (void)events_len, (void)answers, (void)answers_len, (void)block, (void)block_len;
     return NO_NUMBER;
 }
 

@@ -1,3 +1,5 @@
+pub mod Batch
 pub mod Check
 pub mod Count
 pub mod Explain
+pub mod Theorems

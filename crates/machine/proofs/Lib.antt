@@ -6,6 +6,7 @@ pub mod Leaving
 pub mod Checking
 pub mod Goodness
 pub mod Entering
+pub mod Walk
 pub mod Theorems
 pub mod Cases
 pub mod Wrong

@@ -19,6 +19,7 @@ ghost use Rattle.rules.specs.Step.{
   answerLeft,
 };
 use entry::code;
+use rules::answer::NUMBER;
 use rules::answer::VALUE;
 use rules::answer::refuse;
 use rules::event::Event;
@@ -141,6 +142,60 @@ pub fn step_event(block: &mut [u8], e: Event) -> Answer
     let number = replay(block, e.code, e.a, e.b, &mut buffer);
     Answer {
         number: number,
+        value: get_word(&buffer, VALUE),
+    }
+}
+
+// The same for `advance`.
+fn advance_sized(block: &mut [u8], code: u32, a: u32, b: u32, buffer: &mut [u8]) -> u32
+    requires { ⌜ (length (now block) ≡ BLOCK-SIZE) × (length (now buffer) ≡ ANSWER-SIZE) ⌝ }
+    ensures { λ r. ⌜ Carried (now (block .entry)) (action (now (block .entry)) (record { code = code; a = a; b = b })) r (now (block .exit)) (now (buffer .exit)) ⌝ }
+{
+    let cpsr = get_word(block, place::CPSR);
+    let scr = get_word(block, place::SCR);
+    let fault = fault_of(cpsr, scr, get_word(block, place::HCR));
+    if fault != number::DONE {
+        return refuse(buffer, fault);
+    }
+    match code {
+        code::UNDEFINED_INSTRUCTION => synchronous::undefined_instruction(
+            block,
+            cpsr,
+            scr,
+            a,
+            b,
+            buffer,
+        ),
+        code::SVC => synchronous::svc(block, cpsr, scr, a, b, buffer),
+        code::SMC => synchronous::smc(block, cpsr, scr, a, b, buffer),
+        code::HVC => synchronous::hvc(block, cpsr, scr, a, b, buffer),
+        code::PREFETCH_ABORT => synchronous::prefetch_abort(block, cpsr, scr, a, b, buffer),
+        code::DATA_ABORT => synchronous::data_abort(block, cpsr, scr, a, b, buffer),
+        code::HYP_TRAP => synchronous::hyp_trap(block, cpsr, scr, a, b, buffer),
+        code::MONITOR_TRAP => synchronous::monitor_trap(block, cpsr, scr, a, b, buffer),
+        code::INTERRUPT_CHECK => interrupt_check::check(block, cpsr, scr, a, b, buffer),
+        code::BANKED_READ => access::banked_read(block, cpsr, scr, a, b, buffer),
+        code::BANKED_WRITE => access::banked_write(block, cpsr, scr, a, b, buffer),
+        code::NOTE => access::note(block, cpsr, scr, a, b, buffer),
+        _ => refuse(buffer, number::BAD_EVENT),
+    }
+}
+
+// The same, for who goes through a list of events. Both words are read back from the buffer: they go on as one.
+pub fn advance(block: &mut [u8], e: Event) -> Answer
+    ensures answers { λ r. ⌜ r ≡ answer (now (block .entry)) e ⌝ }
+    ensures leaves { λ _. ⌜ now (block .exit) ≡ after (now (block .entry)) e ⌝ }
+{
+    if block.len() != place::BLOCK_SIZE {
+        return Answer {
+            number: number::BAD_SIZE,
+            value: 0,
+        };
+    }
+    let mut buffer = [0u8; ANSWER_SIZE];
+    advance_sized(block, e.code, e.a, e.b, &mut buffer);
+    Answer {
+        number: get_word(&buffer, NUMBER),
         value: get_word(&buffer, VALUE),
     }
 }
