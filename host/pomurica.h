@@ -89,7 +89,8 @@ enum pomurica_record_word {
 
 /*
  * Answer numbers: 0 to 7 of a step; 0, 1 and 8 to 12 of the checker and of an
- * explanation, and with 13 of a count; 0, 1 and 15 of the lines of counts.
+ * explanation, and with 13 of a count; 0, 1 and 15 of the lines of counts;
+ * 0 and 1 of a batch.
  */
 enum pomurica_number {
     POMURICA_DONE = 0,        /* the step was done; the trace is accepted */

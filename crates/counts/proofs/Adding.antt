@@ -158,10 +158,3 @@ all-below (suc m) w f e j l k =
     go false p false q h rest =
         let d = eqb-false w j q in
         rest h (omega arith)
-
--- two rows of sums that are the same pass the largest word alike
-pub same-passes : (m w : ℕ) (f g : ℕ → ℕ) → ((j : ℕ) → j < w + m → f j ≡ g j) → anyPasses m w f ≡ anyPasses m w g
-unfolding anyPasses
-same-passes zero w f g h = refl
-same-passes (suc m) w f g h =
-    (λ i. ltb 4294967295 (h w (omega arith) i) || same-passes m (w + 1) f g (λ j l. h j (omega arith)) i)

@@ -21,13 +21,15 @@ use Rattle.interrupts.proofs.Laws.{found-cases}
 use Rattle.rules.specs.declared.event.Event.{Event}
 use Rattle.rules.specs.Parts.{Sound}
 use Rattle.rules.specs.Refusal.{refusal}
-use Rattle.rules.specs.Step.{Action, Refuse, Take, Quiet, Read, Put, takenBy, checkedIn, interruptWay, eventWay, answerTo, doneAction, action, answer}
+use Rattle.rules.specs.Step.{Action, Refuse, Take, Quiet, Read, Put, takenBy, checkedIn, interruptWay, eventWay}
+use Rattle.rules.specs.Step.{answerTo, doneAction, action, answer}
 use Rattle.rules.specs.Verdict.{value}
 use Rattle.rules.proofs.Deciding.{by-code}
 use Rattle.rules.proofs.Sound.{action-sound, target-small}
 use Rattle.machine.proofs.Laws.{number-small, which-small}
 use Rattle.trace.specs.Layout.{layout01}
-use Rattle.counts.specs.Counts.{Step, stepsFrom, codeNumber, isDone, isCheck, isEntry, targetMode, isDoneCheck, exceptionTaken, howMany, GROUP-SIZE}
+use Rattle.counts.specs.Counts.{Step, stepsFrom, codeNumber, isDone, isCheck, isEntry, targetMode}
+use Rattle.counts.specs.Counts.{isDoneCheck, exceptionTaken, howMany, GROUP-SIZE}
 use Rattle.counts.specs.Theorems.{total}
 use Rattle.counts.proofs.Bumping.{one}
 use Rattle.counts.proofs.Codes.{code-small}
@@ -63,7 +65,8 @@ taken-no-read : (x : Exception) (w : Way) → NoRead (takenBy x w)
 taken-no-read x (Barred n) = tt
 taken-no-read x (Enter to offset link) = tt
 
-done-no-read : (b : List ℕ) (code a w : ℕ) → (code ≡ BANKED-READ → ⊥) → NoRead (doneAction b (record { code = code; a = a; b = w }))
+done-no-read : (b : List ℕ) (code a w : ℕ) → (code ≡ BANKED-READ → ⊥)
+    → NoRead (doneAction b (record { code = code; a = a; b = w }))
 done-no-read b code a w n =
     by-code NoRead b code a w
     (λ e. found-cases (λ (f : Found). NoRead (checkedIn b a f)) a (word b CPSR) (word b SCR) (word b HCR) tt

@@ -11,7 +11,8 @@ use borrow.Author.Tests.{eq-eqb, ne-eqb, eqb-true, eqb-false, ltb-true, ltb-fals
 use Rattle.words.specs.Word.{spelt, word, put}
 use Rattle.words.proofs.Laws.{word-put-same, word-put-other, length-put}
 use Rattle.state.specs.Choice.{if_then_else_, _is_}
-use Rattle.counts.specs.Counts.{Step, counted, codeNumber, answerNumber, isEntry, targetMode, isDoneCheck, exceptionTaken, GROUP-SIZE, WORDS, COUNTS-SIZE}
+use Rattle.counts.specs.Counts.{Step, counted, codeNumber, answerNumber, isEntry, targetMode, isDoneCheck}
+use Rattle.counts.specs.Counts.{exceptionTaken, GROUP-SIZE, WORDS, COUNTS-SIZE}
 use Rattle.counts.specs.Parts.{stepOf, NOWHERE, targetNumber, takenNumber, bumped, Tally, Counted}
 
 abbrev pub one : Bool → ℕ

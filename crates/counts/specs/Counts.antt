@@ -6,7 +6,7 @@
 -- is refused whole with 13 FULL.
 use mathlib.Core.Bool.{Bool, true, false, not, _&&_, _||_}
 use mathlib.Core.List.{List, [], _∷_, _++_}
-use Prim.Native.Nat.{ℕ, zero, suc, _+_, _-_, _*_, _/_, _%_}
+use Prim.Native.Nat.{ℕ, zero, suc, _+_, _/_, _%_}
 use lib.ListN.{length}
 use lib.Dec.{ltb}
 use Rattle.words.specs.Word.{le32, word}
@@ -88,13 +88,11 @@ count group number = howMany (counted group number)
 
 -- ---- the words
 
-abbrev pub GROUPS : ℕ
-GROUPS = 4
-
 -- a group has so many words
 abbrev pub GROUP-SIZE : ℕ
 GROUP-SIZE = 32
 
+-- and there are four
 abbrev pub WORDS : ℕ
 WORDS = 128
 

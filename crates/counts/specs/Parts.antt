@@ -1,5 +1,5 @@
 -- What the inner functions of the counting ask and answer. Nobody has to believe these: the contracts of the public
--- functions cite Counts.antt alone.
+-- functions cite Counts.antt and Lines.antt alone.
 use mathlib.Core.Path.{_≡_}
 use mathlib.Core.Bool.{Bool, _&&_}
 use mathlib.Core.List.{List, [], _∷_, _++_}

@@ -37,7 +37,8 @@ const BY_TARGET: usize = 2 * GROUP_SIZE;
 
 const BY_TAKEN: usize = 3 * GROUP_SIZE;
 
-// One more under this number of a group; a number without a word counts nowhere.
+// One more under this number of a group; a number without a word counts nowhere. No word overflows: a Step finds
+// none above 65,535 and bumps four times, so that before the last of them none is above 65,538.
 fn bump(gains: &mut [u8], first: usize, number: u32)
     requires { ⌜ (first + GROUP-SIZE ≤ WORDS) × Tally 65538 (now gains) ⌝ }
     ensures { λ _. ⌜ now (gains .exit) ≡ bumped (now (gains .entry)) first number ⌝ }

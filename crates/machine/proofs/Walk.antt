@@ -22,14 +22,16 @@ use borrow.Rule.Scalar.{Oper, HasO, opO, valO, Φuse, Φop2, n-room, After, Φco
 use borrow.Rule.Scalar.{reads-sc, holds-sc, room-sc, t-use, t-op2, t-cond, g-room}
 
 -- code from the context Γ to the outcomes Δ: what it asks, and that it is typed so
-pub record Code {M : Type 1} {𝓤 : URA M} {H : Heap 𝓤} {A : Atoms 𝓤} (W : Given 𝓤 H A) (𝓣 : Tables 𝓤 H) (E : Env 𝓤 H) (Γ : Cx)
-    (b : Body) (Δ : Outs) : Type 2 where
+pub record Code {M : Type 1} {𝓤 : URA M} {H : Heap 𝓤} {A : Atoms 𝓤} (W : Given 𝓤 H A) (𝓣 : Tables 𝓤 H) (E : Env 𝓤 H)
+    (Γ : Cx) (b : Body) (Δ : Outs) : Type 2 where
   pub asks : TF Γ Δ
   pub typed : Typed 𝓤 H A 𝓣 E Γ b Δ asks
 
 module _ {M : Type 1} {𝓤 : URA M} {H : Heap 𝓤} {A : Atoms 𝓤} {W : Given 𝓤 H A} {𝓣 : Tables 𝓤 H} {E : Env 𝓤 H} where
   -- a statement and the code behind it
-  abbrev pub _⨾_ : {Γ Γ₁ : Cx} {a b : Body} {Δ : Outs} {φ : Tf Γ Γ₁} → Stmt 𝓤 H A 𝓣 E Γ a Γ₁ φ → Code W 𝓣 E Γ₁ b Δ
+  abbrev pub _⨾_ : {Γ Γ₁ : Cx} {a b : Body} {Δ : Outs} {φ : Tf Γ Γ₁}
+      → Stmt 𝓤 H A 𝓣 E Γ a Γ₁ φ
+      → Code W 𝓣 E Γ₁ b Δ
       → Code W 𝓣 E Γ (seq a b) Δ
   _⨾_ {Γ} {Γ₁} {a} {b} {Δ} {φ} s t =
       record { asks = λ Ψ. φ (t .asks Ψ); typed = s-seq 𝓤 H A W 𝓣 E Γ Γ₁ a b Δ φ (t .asks) s (t .typed) }
@@ -43,7 +45,9 @@ module _ {M : Type 1} {𝓤 : URA M} {H : Heap 𝓤} {A : Atoms 𝓤} {W : Given
   infixr 20 _⨾_
   infixr 20 _∘_
   -- code that may leave, and the code where it does not
-  abbrev pub join : {Γ : Cx} {a b : Body} {Δ : Outs} (Γ₁ : Cx) → Code W 𝓣 E Γ a (withNext (some Γ₁) Δ) → Code W 𝓣 E Γ₁ b Δ
+  abbrev pub join : {Γ : Cx} {a b : Body} {Δ : Outs} (Γ₁ : Cx)
+      → Code W 𝓣 E Γ a (withNext (some Γ₁) Δ)
+      → Code W 𝓣 E Γ₁ b Δ
       → Code W 𝓣 E Γ (seq a b) Δ
   join {Γ} {a} {b} {Δ} Γ₁ s t =
       record {

@@ -1,9 +1,10 @@
 // One step: an event on a lent block (document 01, "Answer numbers"). The block is judged once, then the code says which
 // event it is, and the event's own function does the rest.
 //
-// `step` and `replay` are the same step. There are two because the compiler makes a function that is called from one place
-// part of that place: with one, all twelve events would share a single body, and every step would save and restore the
-// registers of the dearest (docs/DECISIONS.md, "Shape").
+// `step`, `replay` and `advance` are the same step. There are three because the compiler makes a function that is called from
+// one place part of that place: with one, all twelve events would share a single body, and every step would save and restore
+// the registers of the dearest (docs/DECISIONS.md, "Shape"). `step` is C's, `replay` the checker's and the explanation's,
+// `advance` that of a list of events.
 ghost use mathlib.Core.Path.{_≡_};
 ghost use Prim.Native.Nat.{_<_, _^_};
 ghost use lib.ListN.{length};

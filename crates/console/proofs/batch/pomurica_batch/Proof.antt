@@ -132,7 +132,8 @@ pub pomurica-batch-spec : {M : Type 1} → statement M
 unfolding code.routine tablesOf
 pomurica-batch-spec {M} 𝓤 H 𝓜 𝓖 𝓡 =
     written.close 3 ps res (Unit {0}) requires ensures pre-read Pinned Owned post-read world code.env key.name code.function
-    (code.unfolded 𝓤 H 𝓜 𝓡) (λ κs a g. tt) (λ κs. no-owns (endedOf 3 ps res) (stays ps) κs world) (λ κs a g r ws ft p q. top 𝓤 _)
+    (code.unfolded 𝓤 H 𝓜 𝓡) (λ κs a g. tt) (λ κs. no-owns (endedOf 3 ps res) (stays ps) κs world)
+    (λ κs a g r ws ft p q. top 𝓤 _)
     (λ g. t-fn-plain 𝓤 H (𝓖 .A) given tables 3 ps res xs 1 hs body
     (λ κs qs bs. walk Inv 𝓤 H (𝓖 .A) given tables callee κs qs bs .asks)
     (λ κs qs bs bd. walk Inv 𝓤 H (𝓖 .A) given tables callee κs qs bs .typed) Pre Post

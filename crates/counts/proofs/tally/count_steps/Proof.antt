@@ -32,8 +32,10 @@ count-step-requires c κs =
     let turn = c .before .before in
     let start = given (turn .before) in
     let at = turn .before .loop .at in
-    let rest = rest-is (start .args .trace .now) at in
-    (omega (arith, ap length rest, length-drop at (start .args .trace .now), whole turn), passed-tally layout01 _ _ _ _ _ (turn .before .loop .inv) (start .pre .0))
+    let rest = rest-is (start .args .trace .now) at in (
+      omega (arith, ap length rest, length-drop at (start .args .trace .now), whole turn),
+      passed-tally layout01 _ _ _ _ _ (turn .before .loop .inv) (start .pre .0),
+    )
 
 loop-again : tie.Need-loop-again Inv-loop μ-loop
 loop-again c =
