@@ -1,17 +1,23 @@
 -- A banked access, on each way through its tests: no register, no right, or the access itself.
 use mathlib.Core.Path.{_≡_, refl, sym, ap, _∙_}
-use mathlib.Core.Bool.{Bool, true, false}
+use mathlib.Core.Bool.{Bool, true, false, _||_}
 use mathlib.Core.List.{List}
 use Prim.Native.Nat.{ℕ, _+_, _*_, _<_, _≤_}
 use native.Mathlib.Omega.{arith}
-use borrow.Author.Tests.{eq-eqb, ne-eqb}
+use borrow.Author.Tests.{ltb-true}
+use lib.Dec.{ltb}
 use lib.ListN.{length}
 use Rattle.words.specs.Word.{word, put}
-use Rattle.state.specs.Number.{DONE, BAD-EVENT, NO-REGISTER}
-use Rattle.state.specs.Place.{PLACES, BLOCK-SIZE, NO-PLACE, CPSR, SCR}
-use Rattle.state.specs.State.{fault}
+use Rattle.state.specs.Choice.{if_then_else_, _is_}
+use Rattle.state.specs.Field.{mode-field}
+use Rattle.state.specs.Mode.{modes, known}
+use Rattle.state.specs.Number.{DONE, BAD-EVENT, NO-REGISTER, NO-RIGHT}
+use Rattle.state.specs.Place.{PLACES, BLOCK-SIZE, NO-PLACE, CPSR, SCR, HCR}
+use Rattle.state.specs.State.{fault, secure}
+use Rattle.state.proofs.Good.{parts-of-good}
+use Rattle.state.proofs.Test.{at-one, refuted, true-is-not-false, first-of-two}
 use Rattle.banked.specs.Cell.{cell}
-use Rattle.banked.specs.Right.{right}
+use Rattle.banked.specs.Right.{denied, right}
 use Rattle.rules.specs.Event.{BANKED-READ, BANKED-WRITE, CELL-VALUES, badEvent}
 use Rattle.rules.specs.Parts.{Told, Carried}
 use Rattle.rules.specs.Step.{Action, Refuse, Read, Put, action}
@@ -36,36 +42,64 @@ pub written : (b : List ℕ) (w : ℕ) {p q n : ℕ} {l m : List ℕ} → p ≡ 
     → Carried b (Put q w) n l m
 written b w e h t = (rw (← e) h, t)
 
--- an access x at the place p, which is to come to y: no register, no right, or x itself
-pub record Ruled (p cpsr scr : ℕ) (x y : Action) : Type 0 where
-  pub inside : (p ≡ NO-PLACE → ⊥) → p < PLACES
-  pub none : p ≡ NO-PLACE → Refuse NO-REGISTER ≡ y
-  pub denied : {n : ℕ} → (p ≡ NO-PLACE → ⊥) → n ≡ right p cpsr scr → (n ≡ DONE → ⊥) → Refuse n ≡ y
-  pub allowed : {n : ℕ} → (p ≡ NO-PLACE → ⊥) → n ≡ right p cpsr scr → n ≡ DONE → x ≡ y
+-- a good block's mode is one of 16 to 31
+pub mode-number : (b : List ℕ) {cpsr : ℕ} → cpsr ≡ word b CPSR → fault b ≡ DONE → 16 ≤ mode-field cpsr
+unfolding fault known
+mode-number b {cpsr} e good =
+    let k = parts-of-good (word b CPSR) (word b SCR) (word b HCR) good .known-mode in
+    let h = ltb-true 15 (mode-field (word b CPSR)) (at-one modes (λ m. ltb 15 m) refl (mode-field (word b CPSR)) k) in
+    rw e h
 
--- it does, where a cell names p, by the words of the block that the right goes by
-module _ (b : List ℕ) (a : ℕ) {p cpsr scr : ℕ} (e : p ≡ cell a) (ec : cpsr ≡ word b CPSR) (es : scr ≡ word b SCR) where
+-- whether an access by A is refused, and why
+abbrev pub Barred : ℕ → ℕ → ℕ → Bool
+Barred a cpsr scr = cell a is NO-PLACE || denied (cell a) (mode-field cpsr) (secure cpsr scr)
+
+abbrev pub Why : ℕ → ℕ
+Why a = if cell a is NO-PLACE then NO-REGISTER else NO-RIGHT
+
+-- an access x by A, which is to come to y: refused, or x itself at a place of the block
+pub record Ruled (a cpsr scr : ℕ) (x y : Action) : Type 0 where
+  pub denial : {d : Bool} {n : ℕ} → d ≡ Barred a cpsr scr → d ≡ true → n ≡ Why a → Refuse n ≡ y
+  pub allowed : {d : Bool} → d ≡ Barred a cpsr scr → d ≡ false → x ≡ y
+  pub inside : {d : Bool} {p : ℕ} → d ≡ Barred a cpsr scr → d ≡ false → p ≡ cell a → p < PLACES
+
+-- no register, no right, or the access: the two refusals under one test
+settled : (none no-right : Bool) (x : Action)
+    → (if none then Refuse NO-REGISTER else
+    (if (if no-right then NO-RIGHT else DONE) is DONE then x else Refuse (if no-right then NO-RIGHT else DONE)))
+    ≡ (if none || no-right then Refuse (if none then NO-REGISTER else NO-RIGHT) else x)
+settled true no-right x = refl
+settled false true x = refl
+settled false false x = refl
+
+-- it does, by the words of the block that the right goes by
+module _ (b : List ℕ) (a : ℕ) {cpsr scr : ℕ} (ec : cpsr ≡ word b CPSR) (es : scr ≡ word b SCR) where
   ruled : (x y : Action) → a < CELL-VALUES → accessed (cell a) (right (cell a) (word b CPSR) (word b SCR)) x ≡ y
-      → Ruled p cpsr scr x y
-  unfolding accessed
+      → Ruled a cpsr scr x y
+  unfolding accessed right
   ruled x y l f = record {
-    inside = λ h. let i = inside-registers a l (ne-eqb (cell a) NO-PLACE (there h)) in omega (arith, e);
-    none = λ h. rw (eq-eqb (cell a) NO-PLACE (sym e ∙ h)) at f;
-    denied = λ h r k. rw (ne-eqb (cell a) NO-PLACE (there h), ← number r, ne-eqb _ DONE k) at f;
-    allowed = λ h r k. rw (ne-eqb (cell a) NO-PLACE (there h), ← number r, eq-eqb _ DONE k) at f;
+    denial = λ e h w. let t = sym e ∙ h in rw w (rw t at so);
+    allowed = λ e h. let t = sym e ∙ h in rw t at so;
+    inside = λ e h q. let i = inside-registers a l (there (sym e ∙ h)) in omega (arith, q);
   }
     where
-      there : (p ≡ NO-PLACE → ⊥) → cell a ≡ NO-PLACE → ⊥
-      there h z = h (e ∙ z)
+      none : Bool
+      none = cell a is NO-PLACE
 
-      number : {n : ℕ} → n ≡ right p cpsr scr → n ≡ right (cell a) (word b CPSR) (word b SCR)
-      number r = rw (← e, ← ec, ← es) r
+      no-right : Bool
+      no-right = denied (cell a) (mode-field cpsr) (secure cpsr scr)
+
+      so : (if Barred a cpsr scr then Refuse (Why a) else x) ≡ y
+      so = sym (settled none no-right x) ∙ (rw (ec, es) f)
+
+      there : Barred a cpsr scr ≡ false → none ≡ false
+      there h = refuted none (λ t. true-is-not-false (first-of-two none no-right t) h)
 
   module _ (w : ℕ) (size : length b ≡ BLOCK-SIZE) (good : fault b ≡ DONE) where
-    pub read-ruled : badEvent BANKED-READ a w ≡ false → Ruled p cpsr scr (Read (cell a)) (action b (event BANKED-READ a w))
+    pub read-ruled : badEvent BANKED-READ a w ≡ false → Ruled a cpsr scr (Read (cell a)) (action b (event BANKED-READ a w))
     read-ruled h = ruled _ _ (read-a a w h) (at-read b a w size good h)
 
-    pub write-ruled : badEvent BANKED-WRITE a w ≡ false → Ruled p cpsr scr (Put (cell a) w) (action b (event BANKED-WRITE a w))
+    pub write-ruled : badEvent BANKED-WRITE a w ≡ false → Ruled a cpsr scr (Put (cell a) w) (action b (event BANKED-WRITE a w))
     write-ruled h = ruled _ _ (write-a a w h) (at-write b a w size good h)
 
 -- an event whose operands were found to be out of their range

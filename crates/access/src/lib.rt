@@ -7,7 +7,8 @@ ghost use Rattle.rules.specs.Event.{BANKED-READ, BANKED-WRITE, NOTE};
 ghost use Rattle.rules.specs.Parts.{Ready, Carried, judgedPut};
 ghost use Rattle.rules.specs.Step.{ANSWER-SIZE, action};
 use banked::cell::cell_of;
-use banked::right::right_of;
+use banked::right::denial_of;
+use banked::right::is_denied;
 use rules::answer::done;
 use rules::answer::refuse;
 use rules::event::CELL_VALUES;
@@ -27,14 +28,10 @@ pub fn banked_read(block: &mut [u8], cpsr: u32, scr: u32, a: u32, b: u32, buffer
     if beyond(a, CELL_VALUES, b) {
         return refuse(buffer, number::BAD_EVENT);
     }
+    if is_denied(a, cpsr, scr) {
+        return refuse(buffer, denial_of(a));
+    }
     let p = cell_of(a);
-    if p == place::NO_PLACE {
-        return refuse(buffer, number::NO_REGISTER);
-    }
-    let n = right_of(p, cpsr, scr);
-    if n != number::DONE {
-        return refuse(buffer, n);
-    }
     done(buffer, Verdict::Register(get_word(block, p)))
 }
 
@@ -57,14 +54,10 @@ pub fn banked_write(block: &mut [u8], cpsr: u32, scr: u32, a: u32, b: u32, buffe
     if beyond(a, CELL_VALUES, 0) {
         return refuse(buffer, number::BAD_EVENT);
     }
+    if is_denied(a, cpsr, scr) {
+        return refuse(buffer, denial_of(a));
+    }
     let p = cell_of(a);
-    if p == place::NO_PLACE {
-        return refuse(buffer, number::NO_REGISTER);
-    }
-    let right = right_of(p, cpsr, scr);
-    if right != number::DONE {
-        return refuse(buffer, right);
-    }
     put_word(block, p, b);
     done(buffer, Verdict::Written(b))
 }

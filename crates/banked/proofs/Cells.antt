@@ -1,16 +1,18 @@
--- The 64 numbers of the code are the cells of Tables F5-116 and F5-117, and no two cells name one place: tests over the
--- whole table.
+-- The 64 numbers of the code's table, and the bytes of its rows, are the cells of Tables F5-116 and F5-117, and no two cells
+-- name one place: tests over the whole table.
 use mathlib.Core.Path.{_≡_, refl}
 use mathlib.Core.Bool.{Bool, not, _&&_}
 use mathlib.Core.List.{List, [], _∷_}
-use Prim.Native.Nat.{ℕ, _/_, _<_, _≤_}
+use Prim.Native.Nat.{ℕ, _*_, _/_, _%_, _^_, _<_, _≤_}
 use native.Mathlib.Omega.{arith}
+use lib.Bits.{bitAnd}
 use lib.Dec.{eqb, ltb}
 use lib.ListN.{getD, List·getD-eq-default}
 use borrow.Author.Tests.{eqb-true, eq-eqb, ne-eqb, ltb-true}
 use Rattle.state.specs.Place.{NO-PLACE, CPSR}
 use Rattle.state.proofs.Test.{at-entry, everyBelow, at-below, implies, implied, both}
 use Rattle.banked.specs.Cell.{CELL-VALUES, cell, F5-116, F5-117}
+use Rattle.banked.specs.Parts.{eightFrom}
 
 abbrev pub cells : List ℕ
 cells =
@@ -27,6 +29,13 @@ cells =
 pub cells-right : (a : ℕ) → a < CELL-VALUES → getD cells a 0 ≡ cell a
 unfolding cell
 cells-right a h = eqb-true (getD cells a 0) (cell a) (at-entry cells (λ a x. eqb x (cell a)) refl a h)
+
+-- the byte of A in its row of eight
+pub byte-right : (a : ℕ) {row : ℕ} → a < CELL-VALUES → row ≡ eightFrom a → bitAnd (row / 2 ^ (a % 8 * 8)) 0xFF ≡ cell a
+unfolding cell eightFrom
+byte-right a l e =
+    let right : ℕ → Bool = λ a. eqb (bitAnd (eightFrom a / 2 ^ (a % 8 * 8)) 0xFF) (cell a) in
+    rw e (eqb-true (bitAnd (eightFrom a / 2 ^ (a % 8 * 8)) 0xFF) (cell a) (at-below CELL-VALUES right refl a l))
 
 -- past the 64 cells there is no register
 pub cell-out : (a : ℕ) → CELL-VALUES ≤ a → cell a ≡ NO-PLACE

@@ -1,30 +1,71 @@
--- Those who are denied a register, as a word. Nobody has to believe this: a law of proofs/ joins it to `denied`.
+-- Cells as words: what the code's own parts answer. Nobody has to believe these: laws of proofs/ join them to `cell` and to
+-- `denied`.
+use mathlib.Core.Bool.{Bool}
 use mathlib.Core.List.{List, [], _∷_}
-use Prim.Native.Nat.{ℕ, _+_, _-_, _^_}
-use Rattle.state.specs.Choice.{if_then_else_, _is_, _among_}
+use Prim.Native.Nat.{ℕ, _+_, _*_, _-_, _/_, _^_}
+use lib.Bits.{bitOr}
+use lib.ListN.{getD}
+use Rattle.state.specs.Choice.{if_then_else_, _is_}
 use Rattle.state.specs.Mode.{USER, FIQ, IRQ, SUPERVISOR, MONITOR, ABORT, HYP, UNDEFINED, SYSTEM}
-use Rattle.state.specs.Place.{SP-usr, LR-usr, ELR-hyp, SP-hyp, SPSR-hyp, R8-usr, R9-usr, R10-usr, R11-usr, R12-usr}
-use Rattle.banked.specs.Right.{fiq-registers, irq-registers, svc-registers, abt-registers, und-registers, mon-registers}
 
--- bit n for the mode of number n with NS 0, bit 32 + n with NS 1: a mode in both states, and all there is
-abbrev pub either : ℕ → ℕ
-either m = 2 ^ m + 2 ^ (32 + m)
+-- the 64 cells by eights, a byte each, the first in the lowest; the last eight stand apart, for what is behind the others
+abbrev pub eights : List ℕ
+eights =
+    0xFF06050403020100
+    ∷ 0xFF0D0C0B0A090807
+    ∷ 0x1514131211100F0E
+    ∷ 0x19181716FFFFFFFF
+    ∷ 0xFFFFFFFFFFFFFFFF
+    ∷ 0xFF1AFFFFFFFFFFFF
+    ∷ 0xFF1EFF1DFF1CFF1B
+    ∷ []
 
-abbrev pub all : ℕ
-all = 2 ^ 64 - 1
+abbrev pub last-eight : ℕ
+last-eight = 0xFF20FF1FFFFFFFFF
 
--- those who are denied the register at p; what is no register is denied to User alone
-unfoldable pub deniedSet : ℕ → ℕ
-deniedSet p =
-    if p among (R8-usr ∷ R9-usr ∷ R10-usr ∷ R11-usr ∷ R12-usr ∷ []) then all - either FIQ else
-    if p is SP-usr then either USER + either SYSTEM else
-    if p is LR-usr then either USER + either SYSTEM + either HYP else
-    if p among fiq-registers then either USER + either FIQ else
-    if p among irq-registers then either USER + either IRQ else
-    if p among svc-registers then either USER + either SUPERVISOR else
-    if p among abt-registers then either USER + either ABORT else
-    if p among und-registers then either USER + either UNDEFINED else
-    if p among mon-registers then (2 ^ 64 - 2 ^ 32) + 2 ^ USER + 2 ^ MONITOR else
-    if p is ELR-hyp then all - either MONITOR - either HYP else
-    if p among (SP-hyp ∷ SPSR-hyp ∷ []) then all - either MONITOR else
-    either USER
+-- those among which the cell of A is
+unfoldable pub eightFrom : ℕ → ℕ
+eightFrom a = getD eights (a / 8) last-eight
+
+-- sets of cells, bit A for the cell of A
+abbrev pub unallocated : ℕ
+unallocated = 0xAFAABFFF0F008080
+
+-- two registers from this cell on, and their SPSR
+abbrev pub own : ℕ → ℕ
+own a = 3 * 2 ^ a + 2 ^ (32 + a)
+
+abbrev pub of-mon : ℕ
+of-mon = own 28
+
+abbrev usr : ℕ
+usr = 0x1F
+
+abbrev hyp : ℕ
+hyp = 2 ^ 31 + 2 ^ 62
+
+-- what most modes cannot reach besides their own, ELR_hyp among it
+abbrev pub most : ℕ
+most = unallocated + usr + 2 ^ 30 + hyp
+
+-- a mode by the lower four bits of its number
+abbrev pub low : ℕ → ℕ
+low mode = mode - 16
+
+-- the cells that a mode cannot reach in Secure state, or that name no register
+unfoldable pub deniedTo : ℕ → ℕ
+deniedTo m =
+    if m is low USER then 2 ^ 64 - 1 else
+    if m is low FIQ then unallocated + 0x7F * 2 ^ 8 + 2 ^ 46 + 2 ^ 30 + hyp else
+    if m is low IRQ then most + own 16 else
+    if m is low SUPERVISOR then most + own 18 else
+    if m is low MONITOR then unallocated + usr + of-mon else
+    if m is low ABORT then most + own 20 else
+    if m is low HYP then unallocated + usr + 2 ^ 6 + hyp else
+    if m is low UNDEFINED then most + own 22 else
+    if m is low SYSTEM then most + 2 ^ 5 + 2 ^ 6 else
+    most
+
+-- and in either state
+unfoldable pub deniedCells : ℕ → Bool → ℕ
+deniedCells m ns = if ns then bitOr (deniedTo m) of-mon else deniedTo m

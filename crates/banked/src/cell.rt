@@ -2,6 +2,7 @@
 ghost use mathlib.Core.Path.{_≡_};
 ghost use Prim.Native.Nat.{_<_};
 ghost use Rattle.banked.specs.Cell.{cell};
+ghost use Rattle.banked.specs.Parts.{eightFrom};
 use state::place;
 
 // By 32 R + SYSm: the place of the register, or the mark of a cell that is CONSTRAINED UNPREDICTABLE.
@@ -86,13 +87,46 @@ fn wide(x: u8) -> usize
     x as usize
 }
 
-// The place of the register that A names, or NO_PLACE.
-pub fn cell_of(a: u32) -> usize
+// The place of the register that A names, or NO_PLACE: one look into the table.
+pub fn cell_in_table(a: u32) -> usize
     ensures { λ r. ⌜ r ≡ cell a ⌝ }
 {
     if a < 64 {
         let i = a as usize;
         wide(CELLS[i])
+    } else {
+        place::NO_PLACE
+    }
+}
+
+// Eight cells as a word, the first in its lowest byte, each by the number of its place; 0xFF is NO_PLACE.
+fn eight_from(a: u32) -> u64
+    ensures { λ r. ⌜ r ≡ eightFrom a ⌝ }
+{
+    match a / 8 {
+        // R 0: R8 to R12, SP and LR of usr
+        0 => 0xFF06_0504_0302_0100,
+        // the same of fiq
+        1 => 0xFF0D_0C0B_0A09_0807,
+        // LR and SP of irq, svc, abt and und
+        2 => 0x1514_1312_1110_0F0E,
+        // LR and SP of mon, ELR and SP of hyp
+        3 => 0x1918_1716_FFFF_FFFF,
+        // R 1: none, and the SPSRs of fiq; of irq, svc, abt and und; of mon and hyp
+        4 => 0xFFFF_FFFF_FFFF_FFFF,
+        5 => 0xFF1A_FFFF_FFFF_FFFF,
+        6 => 0xFF1E_FF1D_FF1C_FF1B,
+        _ => 0xFF20_FF1F_FFFF_FFFF,
+    }
+}
+
+// The same, quicker, for the step: the compiler copies the constant table to the stack wherever it is looked into, 14
+// instructions, and makes a static table of a match. One of 64 arms would be too large for it to become part of both accesses.
+pub fn cell_of(a: u32) -> usize
+    ensures { λ r. ⌜ r ≡ cell a ⌝ }
+{
+    if a < 64 {
+        (eight_from(a) >> (a % 8 * 8) & 0xFF) as usize
     } else {
         place::NO_PLACE
     }

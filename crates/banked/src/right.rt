@@ -1,100 +1,117 @@
 // Who may reach a banked register (document 01, "Banked-register rights").
 ghost use mathlib.Core.Path.{_≡_};
-ghost use Rattle.banked.specs.Parts.{deniedSet};
-ghost use Rattle.banked.specs.Right.{right};
+ghost use mathlib.Core.Bool.{_||_};
+ghost use Prim.Native.Nat.{_%_, _≤_};
+ghost use Rattle.state.specs.Choice.{if_then_else_, _is_};
+ghost use Rattle.state.specs.Field.{mode-field, SCR-NS};
+ghost use Rattle.state.specs.Number.{NO-REGISTER, NO-RIGHT};
+ghost use Rattle.state.specs.Place.{NO-PLACE};
+ghost use Rattle.state.specs.State.{secure};
+ghost use Rattle.banked.specs.Cell.{cell};
+ghost use Rattle.banked.specs.Parts.{deniedTo, deniedCells};
+ghost use Rattle.banked.specs.Right.{denied};
+use state::field::scr_ns;
 use state::mode::Mode;
 use state::number;
-use state::place;
 
-// Those who are denied a register, as a word: bit n for the mode of number n with NS 0, bit 32 + n with NS 1. Monitor is
-// Secure with either, and denied the same.
+// Cells as a set, a word with bit A for the cell of A: those that name no register,
+const UNALLOCATED: u64 = 0xAFAA_BFFF_0F00_8080;
+
+// those of a mode that has some of its own,
+const OF_FIQ: u64 = 0x7F << 8 | 1 << 46;
+
+const OF_IRQ: u64 = 3 << 16 | 1 << 48;
+
+const OF_SVC: u64 = 3 << 18 | 1 << 50;
+
+const OF_ABT: u64 = 3 << 20 | 1 << 52;
+
+const OF_UND: u64 = 3 << 22 | 1 << 54;
+
+const OF_MON: u64 = 3 << 28 | 1 << 60;
+
+// and the others of the paper's list.
+const R8_TO_R12_USR: u64 = 0x1F;
+
+const SP_USR: u64 = 1 << 5;
+
+const LR_USR: u64 = 1 << 6;
+
+const ELR_HYP: u64 = 1 << 30;
+
+const SP_AND_SPSR_HYP: u64 = 1 << 31 | 1 << 62;
+
+// What most modes cannot reach, besides their own.
+const MOST: u64 = UNALLOCATED | R8_TO_R12_USR | ELR_HYP | SP_AND_SPSR_HYP;
+
 const ALL: u64 = 0xFFFF_FFFF_FFFF_FFFF;
 
-const NON_SECURE: u64 = 0xFFFF_FFFF_0000_0000;
+// The modes by the lower four bits of their numbers; the fifth is 1 in each.
+const USER: u32 = Mode::USER.number - 16;
 
-const USER: u64 = 0x1_0000_0001 << Mode::USER.number;
+const FIQ: u32 = Mode::FIQ.number - 16;
 
-const FIQ: u64 = 0x1_0000_0001 << Mode::FIQ.number;
+const IRQ: u32 = Mode::IRQ.number - 16;
 
-const IRQ: u64 = 0x1_0000_0001 << Mode::IRQ.number;
+const SUPERVISOR: u32 = Mode::SUPERVISOR.number - 16;
 
-const SUPERVISOR: u64 = 0x1_0000_0001 << Mode::SUPERVISOR.number;
+const MONITOR: u32 = Mode::MONITOR.number - 16;
 
-const MONITOR: u64 = 0x1_0000_0001 << Mode::MONITOR.number;
+const ABORT: u32 = Mode::ABORT.number - 16;
 
-const ABORT: u64 = 0x1_0000_0001 << Mode::ABORT.number;
+const HYP: u32 = Mode::HYP.number - 16;
 
-const HYP: u64 = 0x1_0000_0001 << Mode::HYP.number;
+const UNDEFINED: u32 = Mode::UNDEFINED.number - 16;
 
-const UNDEFINED: u64 = 0x1_0000_0001 << Mode::UNDEFINED.number;
+const SYSTEM: u32 = Mode::SYSTEM.number - 16;
 
-const SYSTEM: u64 = 0x1_0000_0001 << Mode::SYSTEM.number;
-
-const ALL_BUT_FIQ: u64 = ALL - FIQ;
-
-const ALL_BUT_MONITOR: u64 = ALL - MONITOR;
-
-const ALL_BUT_MONITOR_AND_HYP: u64 = ALL - MONITOR - HYP;
-
-// Those who are denied the register at p: the paper's list, row by row. The compiler makes a table of it. That is why a row has
-// an arm for each register: of places next to each other in one arm the compiler would make a chain of tests.
-fn denied_set(p: usize) -> u64
-    ensures { λ r. ⌜ r ≡ deniedSet p ⌝ }
+// The cells that a mode cannot reach in Secure state, or that name no register. The compiler makes a table of it.
+fn denied_to(mode: u32) -> u64
+    ensures { λ r. ⌜ r ≡ deniedTo mode ⌝ }
 {
-    match p {
-        // R8_usr to R12_usr from any mode but FIQ
-        place::R8_USR => ALL_BUT_FIQ,
-        place::R9_USR => ALL_BUT_FIQ,
-        place::R10_USR => ALL_BUT_FIQ,
-        place::R11_USR => ALL_BUT_FIQ,
-        place::R12_USR => ALL_BUT_FIQ,
-        // SP_usr from System
-        place::SP_USR => USER | SYSTEM,
-        // LR_usr from System or Hyp
-        place::LR_USR => USER | SYSTEM | HYP,
-        // any fiq, irq, svc, abt or und register from its own mode
-        place::R8_FIQ => USER | FIQ,
-        place::R9_FIQ => USER | FIQ,
-        place::R10_FIQ => USER | FIQ,
-        place::R11_FIQ => USER | FIQ,
-        place::R12_FIQ => USER | FIQ,
-        place::SP_FIQ => USER | FIQ,
-        place::LR_FIQ => USER | FIQ,
-        place::SPSR_FIQ => USER | FIQ,
-        place::LR_IRQ => USER | IRQ,
-        place::SP_IRQ => USER | IRQ,
-        place::SPSR_IRQ => USER | IRQ,
-        place::LR_SVC => USER | SUPERVISOR,
-        place::SP_SVC => USER | SUPERVISOR,
-        place::SPSR_SVC => USER | SUPERVISOR,
-        place::LR_ABT => USER | ABORT,
-        place::SP_ABT => USER | ABORT,
-        place::SPSR_ABT => USER | ABORT,
-        place::LR_UND => USER | UNDEFINED,
-        place::SP_UND => USER | UNDEFINED,
-        place::SPSR_UND => USER | UNDEFINED,
-        // SP_mon, LR_mon, SPSR_mon from Non-secure or Monitor
-        place::SP_MON => USER | MONITOR | NON_SECURE,
-        place::LR_MON => USER | MONITOR | NON_SECURE,
-        place::SPSR_MON => USER | MONITOR | NON_SECURE,
-        // ELR_hyp from any but Monitor and Hyp
-        place::ELR_HYP => ALL_BUT_MONITOR_AND_HYP,
-        // SP_hyp, SPSR_hyp from any but Monitor
-        place::SP_HYP => ALL_BUT_MONITOR,
-        place::SPSR_HYP => ALL_BUT_MONITOR,
-        // User mode
-        _ => USER,
+    match mode {
+        USER => ALL,
+        FIQ => UNALLOCATED | OF_FIQ | ELR_HYP | SP_AND_SPSR_HYP,
+        IRQ => MOST | OF_IRQ,
+        SUPERVISOR => MOST | OF_SVC,
+        MONITOR => UNALLOCATED | R8_TO_R12_USR | OF_MON,
+        ABORT => MOST | OF_ABT,
+        HYP => UNALLOCATED | R8_TO_R12_USR | LR_USR | SP_AND_SPSR_HYP,
+        UNDEFINED => MOST | OF_UND,
+        SYSTEM => MOST | SP_USR | LR_USR,
+        _ => MOST,
     }
 }
 
-// What an access to the register at p answers: NO_RIGHT, or DONE where it is allowed.
-pub fn right_of(p: usize, cpsr: u32, scr: u32) -> u32
-    ensures { λ r. ⌜ r ≡ right p cpsr scr ⌝ }
+// The same in the state of SCR: from Non-secure state those of Monitor mode cannot be reached either.
+fn denied_cells(cpsr: u32, scr: u32) -> u64
+    ensures { λ r. ⌜ r ≡ deniedCells (cpsr % 16) (SCR-NS scr) ⌝ }
 {
-    let who = cpsr % 32 + scr / 1 % 2 * 32;
-    if denied_set(p) >> who & 1 == 1 {
-        number::NO_RIGHT
+    let cells = denied_to(cpsr % 16);
+    if scr_ns(scr) { cells | OF_MON } else { cells }
+}
+
+// Is there no register of A that may be reached? One look at the set of the mode, which is one of 16 to 31.
+pub fn is_denied(a: u32, cpsr: u32, scr: u32) -> bool
+    requires { ⌜ 16 ≤ mode-field cpsr ⌝ }
+    ensures { λ r. ⌜ r ≡ (cell a is NO-PLACE || denied (cell a) (mode-field cpsr) (secure cpsr scr)) ⌝ }
+{
+    if a < 64 {
+        denied_cells(cpsr, scr) >> a & 1 == 1
     } else {
-        number::DONE
+        true
     }
+}
+
+// Why, as a number.
+pub fn denial_of(a: u32) -> u32
+    ensures { λ r. ⌜ r ≡ (if cell a is NO-PLACE then NO-REGISTER else NO-RIGHT) ⌝ }
+{
+    if a < 64 {
+        if UNALLOCATED >> a & 1 == 1 {
+            return number::NO_REGISTER;
+        }
+        return number::NO_RIGHT;
+    }
+    number::NO_REGISTER
 }

@@ -155,10 +155,9 @@ fn base_of(block: &[u8], scr: u32, to: Mode, sctlr: u32) -> u32
     if to.is(Mode::MONITOR) {
         return get_word(block, place::MVBAR);
     }
-    if sctlr_v(sctlr) {
-        return 0xFFFF_0000;
-    }
-    get_word(block, own_place(place::VBAR_S, scr))
+    // read whether it is used or not: the compiler then chooses without a branch that V's value makes hard to foresee
+    let own = get_word(block, own_place(place::VBAR_S, scr));
+    if sctlr_v(sctlr) { 0xFFFF_0000 } else { own }
 }
 
 // The words of an entry, in a block whose NS is as it is after the entry.

@@ -4,7 +4,8 @@
 // `step`, `replay` and `advance` are the same step. There are three because the compiler makes a function that is called from
 // one place part of that place: with one, all twelve events would share a single body, and every step would save and restore
 // the registers of the dearest (docs/DECISIONS.md, "Shape"). `step` is C's, `replay` the checker's and the explanation's,
-// `advance` that of a list of events.
+// `advance` that of a list of events. The sizes are tested in the same function for its sake too: behind so many tests the
+// compiler makes no event part of the dispatch.
 ghost use mathlib.Core.Path.{_≡_};
 ghost use Prim.Native.Nat.{_<_, _^_};
 ghost use lib.ListN.{length};
@@ -33,41 +34,6 @@ use words::get_word;
 // The bytes of an answer buffer.
 pub const ANSWER_SIZE: usize = 8;
 
-// A step on buffers that have their sizes.
-fn step_sized(block: &mut [u8], code: u32, a: u32, b: u32, buffer: &mut [u8]) -> u32
-    requires { ⌜ (length (now block) ≡ BLOCK-SIZE) × (length (now buffer) ≡ ANSWER-SIZE) ⌝ }
-    ensures { λ r. ⌜ Carried (now (block .entry)) (action (now (block .entry)) (record { code = code; a = a; b = b })) r (now (block .exit)) (now (buffer .exit)) ⌝ }
-{
-    let cpsr = get_word(block, place::CPSR);
-    let scr = get_word(block, place::SCR);
-    let fault = fault_of(cpsr, scr, get_word(block, place::HCR));
-    if fault != number::DONE {
-        return refuse(buffer, fault);
-    }
-    match code {
-        code::UNDEFINED_INSTRUCTION => synchronous::undefined_instruction(
-            block,
-            cpsr,
-            scr,
-            a,
-            b,
-            buffer,
-        ),
-        code::SVC => synchronous::svc(block, cpsr, scr, a, b, buffer),
-        code::SMC => synchronous::smc(block, cpsr, scr, a, b, buffer),
-        code::HVC => synchronous::hvc(block, cpsr, scr, a, b, buffer),
-        code::PREFETCH_ABORT => synchronous::prefetch_abort(block, cpsr, scr, a, b, buffer),
-        code::DATA_ABORT => synchronous::data_abort(block, cpsr, scr, a, b, buffer),
-        code::HYP_TRAP => synchronous::hyp_trap(block, cpsr, scr, a, b, buffer),
-        code::MONITOR_TRAP => synchronous::monitor_trap(block, cpsr, scr, a, b, buffer),
-        code::INTERRUPT_CHECK => interrupt_check::check(block, cpsr, scr, a, b, buffer),
-        code::BANKED_READ => access::banked_read(block, cpsr, scr, a, b, buffer),
-        code::BANKED_WRITE => access::banked_write(block, cpsr, scr, a, b, buffer),
-        code::NOTE => access::note(block, cpsr, scr, a, b, buffer),
-        _ => refuse(buffer, number::BAD_EVENT),
-    }
-}
-
 // One event on a block, over a lent answer buffer; the number is returned too. On BAD_SIZE neither changes.
 pub fn step(block: &mut [u8], code: u32, a: u32, b: u32, buffer: &mut [u8]) -> u32
     ensures number { λ r. ⌜ r ≡ numberReturned (now (block .entry)) (record { code = code; a = a; b = b }) (now (buffer .entry)) ⌝ }
@@ -80,14 +46,6 @@ pub fn step(block: &mut [u8], code: u32, a: u32, b: u32, buffer: &mut [u8]) -> u
     if buffer.len() != ANSWER_SIZE {
         return number::BAD_SIZE;
     }
-    step_sized(block, code, a, b, buffer)
-}
-
-// The same for `replay`.
-fn replay_sized(block: &mut [u8], code: u32, a: u32, b: u32, buffer: &mut [u8]) -> u32
-    requires { ⌜ (length (now block) ≡ BLOCK-SIZE) × (length (now buffer) ≡ ANSWER-SIZE) ⌝ }
-    ensures { λ r. ⌜ Carried (now (block .entry)) (action (now (block .entry)) (record { code = code; a = a; b = b })) r (now (block .exit)) (now (buffer .exit)) ⌝ }
-{
     let cpsr = get_word(block, place::CPSR);
     let scr = get_word(block, place::SCR);
     let fault = fault_of(cpsr, scr, get_word(block, place::HCR));
@@ -131,7 +89,34 @@ pub fn replay(block: &mut [u8], code: u32, a: u32, b: u32, buffer: &mut [u8]) ->
     if buffer.len() != ANSWER_SIZE {
         return number::BAD_SIZE;
     }
-    replay_sized(block, code, a, b, buffer)
+    let cpsr = get_word(block, place::CPSR);
+    let scr = get_word(block, place::SCR);
+    let fault = fault_of(cpsr, scr, get_word(block, place::HCR));
+    if fault != number::DONE {
+        return refuse(buffer, fault);
+    }
+    match code {
+        code::UNDEFINED_INSTRUCTION => synchronous::undefined_instruction(
+            block,
+            cpsr,
+            scr,
+            a,
+            b,
+            buffer,
+        ),
+        code::SVC => synchronous::svc(block, cpsr, scr, a, b, buffer),
+        code::SMC => synchronous::smc(block, cpsr, scr, a, b, buffer),
+        code::HVC => synchronous::hvc(block, cpsr, scr, a, b, buffer),
+        code::PREFETCH_ABORT => synchronous::prefetch_abort(block, cpsr, scr, a, b, buffer),
+        code::DATA_ABORT => synchronous::data_abort(block, cpsr, scr, a, b, buffer),
+        code::HYP_TRAP => synchronous::hyp_trap(block, cpsr, scr, a, b, buffer),
+        code::MONITOR_TRAP => synchronous::monitor_trap(block, cpsr, scr, a, b, buffer),
+        code::INTERRUPT_CHECK => interrupt_check::check(block, cpsr, scr, a, b, buffer),
+        code::BANKED_READ => access::banked_read(block, cpsr, scr, a, b, buffer),
+        code::BANKED_WRITE => access::banked_write(block, cpsr, scr, a, b, buffer),
+        code::NOTE => access::note(block, cpsr, scr, a, b, buffer),
+        _ => refuse(buffer, number::BAD_EVENT),
+    }
 }
 
 // The same with the event and the answer as values, on a block of any size.
@@ -147,7 +132,7 @@ pub fn step_event(block: &mut [u8], e: Event) -> Answer
     }
 }
 
-// The same for `advance`.
+// A step of `advance`, on buffers that have their sizes.
 fn advance_sized(block: &mut [u8], code: u32, a: u32, b: u32, buffer: &mut [u8]) -> u32
     requires { ⌜ (length (now block) ≡ BLOCK-SIZE) × (length (now buffer) ≡ ANSWER-SIZE) ⌝ }
     ensures { λ r. ⌜ Carried (now (block .entry)) (action (now (block .entry)) (record { code = code; a = a; b = b })) r (now (block .exit)) (now (buffer .exit)) ⌝ }

@@ -1,7 +1,9 @@
--- The operands, the register, the right, and then the access itself.
+-- The operands, whether the access is denied, and then the access itself.
 use mathlib.Core.Path.{refl}
+use Prim.Native.Nat.{_+_, _*_, _≤_}
+use lib.ListN.{length}
 use Rattle.banked.specs.Cell.{cell}
-use Rattle.access.proofs.Access.{word-inside, read-out, Ruled, read-ruled, malformed}
+use Rattle.access.proofs.Access.{word-inside, mode-number, read-out, Ruled, read-ruled, malformed}
 use Rattle.access.proofs.banked_read.Statement.{statement}
 use Rattle.access.proofs.banked_read.Tie as tie
 use Rattle.rules.proofs.Carrying.{same-action, refused}
@@ -9,30 +11,35 @@ use Rattle.rules.proofs.Deciding.{event}
 use Rattle.rules.specs.Event.{BANKED-READ, badEvent}
 use Rattle.rules.specs.Step.{Read, action}
 use Rattle.state.proofs.Test.{told}
-use Rattle.state.specs.Number.{NO-REGISTER}
 
--- what was given, seen from where the operands were asked, and from where the cell was; by that the access is ruled
+-- what was given, seen from where the operands were asked, and from where the right was; by that the access is ruled
 abbrev given : tie.After-beyond → tie.Start
 given c = c .before .before .before
 
-abbrev found : tie.After-cell-of → tie.Start
-found c = given (c .before .before)
+abbrev asked : tie.After-is-denied → tie.Start
+asked c = given (c .before .before)
 
-ruled : (c : tie.After-cell-of)
-    → let a = found c .args in
-    Ruled (c .cell-of .result) (a .cpsr) (a .scr) (Read (cell (a .a))) (action (a .block .now) (event BANKED-READ (a .a) (a .b)))
+ruled : (c : tie.After-is-denied)
+    → let a = asked c .args in
+    Ruled (a .a) (a .cpsr) (a .scr) (Read (cell (a .a))) (action (a .block .now) (event BANKED-READ (a .a) (a .b)))
 unfolding badEvent
 ruled c =
-    let s = found c in
-    read-ruled (s .args .block .now) (s .args .a) (c .cell-of .ensures) (s .pre .0 .2) (s .pre .0 .3) (s .args .b) (s .pre .0 .0)
-    (s .pre .1) (told (c .before .before .beyond .ensures) (c .before .if1 .left))
+    let s = asked c in
+    read-ruled (s .args .block .now) (s .args .a) (s .pre .0 .2) (s .pre .0 .3) (s .args .b) (s .pre .0 .0) (s .pre .1)
+    (told (c .before .before .beyond .ensures) (c .before .if1 .left))
 
--- the cell, seen from the right, and the right, seen from the access
-abbrev place : tie.After-right-of → tie.After-cell-of
+-- the place, seen from the access, and the right, seen from the place
+abbrev place : tie.After-get-word-arg → tie.After-cell-of
 place c = c .before .before
 
-abbrev right : tie.After-get-word-arg → tie.After-right-of
-right c = c .before .before .before
+abbrev right : tie.After-cell-of → tie.After-is-denied
+right c = c .before .before
+
+-- an access that is allowed lies in the block
+inside : (c : tie.After-cell-of) → 4 * c .cell-of .result + 4 ≤ length (asked (right c) .args .block .now)
+inside c =
+    let at = right c in
+    word-inside _ (ruled at .inside (at .is-denied .ensures) (c .before .if2 .left) (c .cell-of .ensures)) (asked at .pre .0 .0)
 
 returns : tie.Need-returns
 unfolding badEvent
@@ -46,23 +53,18 @@ returns c =
 returns-2 : tie.Need-returns-2
 returns-2 c =
     let answered = c .before .before in
-    let test = answered .before .before in
-    refused _ NO-REGISTER (ruled (test .before) .none (test .if2 .taken)) (answered .refuse2 .ensures)
+    let why = answered .before in
+    let test = why .before .before in
+    let at = test .before in
+    refused _ _ (ruled at .denial (at .is-denied .ensures) (test .if2 .taken) (why .denial-of .ensures)) (answered .refuse2 .ensures)
 
 returns-3 : tie.Need-returns-3
 returns-3 c =
-    let answered = c .before .before in
-    let test = answered .before .before in
-    let n = test .before in
-    refused _ _ (ruled (place n) .denied (n .before .if2 .left) (n .right-of .ensures) (test .if3 .taken)) (answered .refuse3 .ensures)
-
-returns-4 : tie.Need-returns-4
-returns-4 c =
     let read = c .before .before .before in
-    let n = right (read .before) in
-    let at = place n in
-    same-action _ (ruled at .allowed (n .before .if2 .left) (n .right-of .ensures) (read .before .before .before .if3 .left))
-    (read-out _ (at .cell-of .ensures) (read .get-word .ensures) (c .before .before .done .ensures))
+    let p = place (read .before) in
+    let at = right p in
+    same-action _ (ruled at .allowed (at .is-denied .ensures) (p .before .if2 .left))
+    (read-out _ (p .cell-of .ensures) (read .get-word .ensures) (c .before .before .done .ensures))
 
 -- in the order of the code: what each call asks, the lengths that are kept, and what is returned
 pub banked-read-spec : {M : Type 1} → statement M
@@ -73,16 +75,14 @@ banked-read-spec =
     (λ c κs. given (c .before .before) .pre .0 .1)
     (λ c. c .before .before .refuse .kept .0)
     returns
+    (λ c κs. let s = given (c .before) in mode-number (s .args .block .now) (s .pre .0 .2) (s .pre .1))
     (λ c κs. tt)
-    (λ c κs. found (c .before .before) .pre .0 .1)
+    (λ c κs. asked (c .before .before .before) .pre .0 .1)
     (λ c. c .before .before .refuse2 .kept .0)
     returns-2
     (λ c κs. tt)
-    (λ c κs. found (place (c .before .before)) .pre .0 .1)
-    (λ c. c .before .before .refuse3 .kept .0)
-    returns-3
-    (λ c κs. let at = place (right c) in word-inside _ (ruled at .inside (right c .before .if2 .left)) (found at .pre .0 .0))
-    (λ c κs. (found (place (right (c .before))) .pre .0 .1, tt))
+    (λ c κs. inside (place c))
+    (λ c κs. (asked (right (place (c .before))) .pre .0 .1, tt))
     (λ c. refl)
     (λ c. c .before .before .done .kept .0)
-    returns-4)
+    returns-3)

@@ -1,16 +1,17 @@
--- The table of the code is the paper's, and past its 64 cells there is none.
-use mathlib.Core.Path.{_≡_, sym, _∙_}
+-- The byte of A in its row is the paper's cell, and past the 64 cells there is none.
+use mathlib.Core.Path.{sym}
 use borrow.Author.Needs.{needs}
-use lib.ListN.{getD}
-use Rattle.banked.proofs.Cells.{cells, cells-right, cell-out}
+use Rattle.banked.proofs.Cells.{byte-right, cell-out}
 use Rattle.banked.proofs.cell.cell_of.Statement.{statement}
 use Rattle.banked.proofs.cell.cell_of.Tie as tie
 
-returns : tie.Need-returns
-returns c =
-    let a = c .before .before .args .a in
-    let read : c .wide .result ≡ getD cells a 0 = c .wide .ensures in read ∙ cells-right a (c .before .if1 .taken)
-
 pub cell-of-spec : {M : Type 1} → statement M
 cell-of-spec =
-    tie.close (tie.spec (λ c. search needs) (λ c κs. search needs) returns (λ c. sym (cell-out _ (c .if1 .left))))
+    tie.close
+    (tie.spec
+    (λ c κs. search needs)
+    (λ c. search needs)
+    (λ c. search needs)
+    (λ c. search needs)
+    (λ c. byte-right _ (c .before .if1 .taken) (c .eight-from .ensures))
+    (λ c. sym (cell-out _ (c .if1 .left))))

@@ -30,32 +30,39 @@ returns-2 c =
     rw (told (else1 .before .is .ensures) (else1 .if1 .left), told (c .before .before .is2 .ensures) (c .before .if2 .taken))
     (c .get-word2 .ensures)
 
+-- the two tests that were left, and the word of VBAR, seen from where V is asked
+abbrev vbar : tie.After-sctlr-v → tie.After-get-word3
+vbar c = c .before
+
+abbrev else2 : tie.After-sctlr-v → tie.Else2
+else2 c = vbar c .before .before
+
+abbrev else1 : tie.After-sctlr-v → tie.Else1
+else1 c = else2 c .before .before
+
 returns-3 : tie.Need-returns-3
 unfolding vectorBase
 returns-3 c =
-    let else2 = c .before .before in
-    let else1 = else2 .before .before in
+    let at = c .before in
     rw (
-      told (else1 .before .is .ensures) (else1 .if1 .left),
-      told (else2 .before .is2 .ensures) (else2 .if2 .left),
-      told (c .before .sctlr-v .ensures) (c .if3 .taken),
+      told (else1 at .before .is .ensures) (else1 at .if1 .left),
+      told (else2 at .before .is2 .ensures) (else2 at .if2 .left),
+      told (at .sctlr-v .ensures) (c .if3 .taken),
     )
 
 returns-4 : tie.Need-returns-4
 unfolding vectorBase
 returns-4 c =
-    let else3 = c .before .before in
-    let else2 = else3 .before .before in
-    let else1 = else2 .before .before in
-    let start = else1 .before .before .before in
+    let at = c .before in
+    let start = else1 at .before .before .before in
     let block = start .args .block .now in
     rw (
-      told (else1 .before .is .ensures) (else1 .if1 .left),
-      told (else2 .before .is2 .ensures) (else2 .if2 .left),
-      told (else3 .before .sctlr-v .ensures) (else3 .if3 .left),
+      told (else1 at .before .is .ensures) (else1 at .if1 .left),
+      told (else2 at .before .is2 .ensures) (else2 at .if2 .left),
+      told (at .sctlr-v .ensures) (c .if3 .left),
     )
-    (c .get-word3 .ensures
-    ∙ ap (word block) (c .before .own-place .ensures .0 ∙ ap (ownPlace VBAR-s) (start .pre .1))
+    (vbar at .get-word3 .ensures
+    ∙ ap (word block) (vbar at .before .own-place .ensures .0 ∙ ap (ownPlace VBAR-s) (start .pre .1))
     ∙ at-either block (SCR-NS (word block SCR)) VBAR-ns VBAR-s)
 
 pub base-of-spec : {M : Type 1} → statement M
@@ -69,7 +76,7 @@ base-of-spec =
     (λ c κs. search needs)
     returns-2
     (λ c κs. search needs)
+    (λ c κs. search needs)
+    (λ c κs. search needs)
     returns-3
-    (λ c κs. search needs)
-    (λ c κs. search needs)
     returns-4)
