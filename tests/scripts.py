@@ -18,8 +18,8 @@ import tempfile
 import time
 
 ROOT = os.path.dirname(os.path.dirname(os.path.abspath(__file__)))
-COPIED = ['crates.txt', 'verdict', 'console', 'test', 'tools', 'host', 'bench', 'samples/make']
-SCRIPTS = ['verdict', 'console', 'test', 'tools/look', 'bench/run', 'samples/make']
+COPIED = ['crates.txt', 'verdict', 'decisions', 'console', 'test', 'tools', 'host', 'bench', 'samples/make']
+SCRIPTS = ['verdict', 'decisions', 'console', 'test', 'tools/look', 'bench/run', 'samples/make']
 TRACE = bytes(192)
 
 # hold WHO: where the test holds it, tells that it began and in which process, and waits until it is let go. It does so in the

@@ -25,6 +25,7 @@ tools=$own/toolchain
 target=x86_64-unknown-linux-gnu
 archive=$root/target/staticlib/libconsole.a
 verdict=$root/target/bin/verdict
+decisions=$root/target/bin/decisions
 built=$root/target/host
 
 # The console program, which both ./console and ./test build; of its files, those of the page, and those that find words and
@@ -134,6 +135,7 @@ about() {
     case $1 in
     archive) product=$archive sources='crates.txt crates' ;;
     verdict) product=$verdict sources='crates.txt crates' ;;
+    decisions) product=$decisions sources='crates.txt crates' ;;
     console) product=$built/console sources='crates.txt crates host tools/kit.sh' ;;
     esac
 }
@@ -141,10 +143,14 @@ about() {
 archive_anew() { rt staticlib console; }
 
 # rt links a program where it proves it, and knows by its own stamp that it did: which says nothing if the program is gone.
-verdict_anew() {
-    [ -e "$verdict" ] || rm -f target/stamp/verdict
-    rt check verdict
+program_anew() {
+    [ -e "target/bin/$1" ] || rm -f "target/stamp/$1"
+    rt check "$1"
 }
+
+verdict_anew() { program_anew verdict; }
+
+decisions_anew() { program_anew decisions; }
 
 # shellcheck disable=SC2086 # a list of words
 console_anew() { make archive && build console $console_sources; }

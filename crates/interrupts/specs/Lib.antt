@@ -3,4 +3,5 @@ pub mod Kind
 pub mod Masking
 pub mod Takeable
 pub mod Check
+pub mod Decision
 pub mod Parts

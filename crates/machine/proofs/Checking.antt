@@ -36,7 +36,7 @@ use Rattle.machine.proofs.Laws.{interrupt-enters}
 
 -- ---- the first of a list
 
-first-is : {P : Exception → Type 0} (xs : List Exception) {x : Exception} → TheFirst P xs x → P x
+pub first-is : {P : Exception → Type 0} (xs : List Exception) {x : Exception} → TheFirst P xs x → P x
 first-is (x ∷ xs) (this p) = p
 first-is (y ∷ xs) (another n t) = first-is xs t
 
@@ -84,7 +84,7 @@ module _ (b : List ℕ) (e : Event) where
   abbrev routed : Exception → Way
   routed x = interruptWay b x
 
-  can-be : (x : Exception) → can x ≡ true → CanBeTaken b e x
+  pub can-be : (x : Exception) → can x ≡ true → CanBeTaken b e x
   unfolding takeable
   can-be x h =
       let p = pending x (e .a) (word b CPSR) (word b SCR) (word b HCR) in

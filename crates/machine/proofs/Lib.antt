@@ -4,6 +4,7 @@ pub mod Replay
 pub mod Numbers
 pub mod Leaving
 pub mod Checking
+pub mod Tabled
 pub mod Goodness
 pub mod Entering
 pub mod Walk

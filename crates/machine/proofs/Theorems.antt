@@ -16,6 +16,7 @@ use Rattle.state.specs.State.{fault}
 use Rattle.entry.specs.Code.{isSynchronous}
 use Rattle.entry.specs.Enter.{nsCleared, cpsrAfter, controlPlace, vectorBase, vector}
 use Rattle.interrupts.specs.Exception.{order}
+use Rattle.interrupts.specs.Kind.{Kind}
 use Rattle.interrupts.specs.declared.exception.Exception.{Exception}
 use Rattle.banked.specs.Cell.{cell}
 use Rattle.rules.specs.Event.{INTERRUPT-CHECK, BANKED-READ, BANKED-WRITE, NOTE}
@@ -24,12 +25,13 @@ use Rattle.rules.specs.Step.{ANSWER-SIZE, Take, action, vaCleared, answer, afte
 use Rattle.rules.specs.Verdict.{value, refusedWith}
 use Rattle.rules.specs.declared.event.Event.{Event}
 use Rattle.machine.specs.Claims.{FirstRow, rowsLent, EntersAsRouted, OneOf, TheFirst, CanBeTaken, EntersBy, Takes}
-use Rattle.machine.specs.Claims.{TakesNothing, scrLeft, hcrLeft}
+use Rattle.machine.specs.Claims.{TakesNothing, Decided, scrLeft, hcrLeft}
 use Rattle.machine.proofs.Checking as checking
 use Rattle.machine.proofs.Entering as entering
 use Rattle.machine.proofs.Goodness as goodness
 use Rattle.machine.proofs.Leaving as leaving
 use Rattle.machine.proofs.Numbers as numbers
+use Rattle.machine.proofs.Tabled as tabling
 
 -- ---- the step that C calls is the step: over buffers that have their sizes
 
@@ -109,6 +111,11 @@ module _ (b : List ℕ) (e : Event) (done : refusal b e ≡ DONE) (check : e .co
   -- where none is so nothing is taken, the value is 0, and every byte is as it was
   pub check-quiet : (OneOf (CanBeTaken b e) order → ⊥) → TakesNothing b e
   check-quiet = checking.quiet b e done check
+
+-- the decision table: of each kind and every good block, whether a check with its line alone takes the physical exception, and
+-- where it goes
+pub tabled : (k : Kind) (b : List ℕ) → length b ≡ BLOCK-SIZE → fault b ≡ DONE → Decided k b
+tabled = tabling.decided
 
 -- ---- what an entry leaves, once over the target
 

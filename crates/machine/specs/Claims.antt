@@ -15,10 +15,13 @@ use Rattle.entry.specs.Enter.{entered}
 use Rattle.entry.specs.Route as synchronous
 use Rattle.entry.specs.Way.{Enter}
 use Rattle.interrupts.specs.Check as interrupt
+use Rattle.interrupts.specs.Decision.{NOT-TAKEN, entry, indexOf, physical, lineAlone, targetBy}
+use Rattle.interrupts.specs.Kind.{Kind}
 use Rattle.interrupts.specs.Takeable.{pending, masked}
 use Rattle.interrupts.specs.declared.exception.Exception.{Exception}
 use Rattle.interrupts.specs.declared.exception.Exception.the-variants.{Synchronous, SError, Fiq, Irq}
 use Rattle.interrupts.specs.declared.exception.Exception.the-variants.{VirtualSError, VirtualFiq, VirtualIrq}
+use Rattle.rules.specs.Event.{INTERRUPT-CHECK}
 use Rattle.rules.specs.Refusal.{rows}
 use Rattle.rules.specs.Step.{vaCleared, answer, after, sized, numberReturned, blockLeft, answerLeft}
 use Rattle.rules.specs.Verdict.{entryTo, answerFor}
@@ -72,6 +75,22 @@ module _ (b : List ℕ) (e : Event) where
     pub number : answer b e .number ≡ DONE
     pub value : answer b e .value ≡ 0
     pub leaves : after b e ≡ b
+
+-- ---- the decision table (document 02, No. 4)
+
+module _ (k : Kind) (b : List ℕ) where
+  -- an interrupt check with the line of k alone, and the entry at the index that the block's bits make
+  abbrev pub alone : Event
+  alone = record { code = INTERRUPT-CHECK; a = lineAlone k; b = 0 }
+
+  abbrev pub decision : ℕ
+  decision = entry (indexOf k true (word b CPSR) (word b SCR) (word b HCR))
+
+  -- it says whether the physical exception is taken, and where it goes
+  pub record Decided : Type 0 where
+    pub taken : (decision ≡ NOT-TAKEN → ⊥) → EntersBy b alone (physical k)
+    pub only : EntersBy b alone (physical k) → decision ≡ NOT-TAKEN → ⊥
+    pub goes : (p : EntersBy b alone (physical k)) → p .to ≡ targetBy k decision
 
 -- ---- a synchronous event
 
