@@ -208,7 +208,7 @@ ALWAYS_INLINE uint32_t take_first(const struct state *state, uint32_t lines)
     const uint32_t pc = get(state->block, POMURICA_PLACE_PC);
 
     if ((lines & POMURICA_LINE_SERROR) &&
-        !((cpsr & A) && is_obeyed(secure, hyp, hcr & AMO, scr & EA, scr & AW))) {
+        !((cpsr & A) && is_obeyed(secure, hyp, hcr & (AMO | TGE), scr & EA, scr & AW))) {
         if (scr & EA)
             return enter_monitor(state, 1, 0x10, pc + 8);
         if (hyp || (!secure && (hcr & (TGE | AMO))))
@@ -216,7 +216,7 @@ ALWAYS_INLINE uint32_t take_first(const struct state *state, uint32_t lines)
         return enter_abort(state, 1, 0x10, pc + 8);
     }
     if ((lines & POMURICA_LINE_FIQ) &&
-        !((cpsr & F) && is_obeyed(secure, hyp, hcr & FMO, scr & SCR_FIQ, scr & FW))) {
+        !((cpsr & F) && is_obeyed(secure, hyp, hcr & (FMO | TGE), scr & SCR_FIQ, scr & FW))) {
         if (scr & SCR_FIQ)
             return enter_monitor(state, 2, 0x1C, pc + 4);
         if (hyp || (!secure && (hcr & (TGE | FMO))))
@@ -224,7 +224,7 @@ ALWAYS_INLINE uint32_t take_first(const struct state *state, uint32_t lines)
         return enter_fiq(state, 2, pc + 4);
     }
     if ((lines & POMURICA_LINE_IRQ) &&
-        !((cpsr & I) && is_obeyed(secure, hyp, hcr & IMO, scr & SCR_IRQ, 1))) {
+        !((cpsr & I) && is_obeyed(secure, hyp, hcr & (IMO | TGE), scr & SCR_IRQ, 1))) {
         if (scr & SCR_IRQ)
             return enter_monitor(state, 3, 0x18, pc + 4);
         if (hyp || (!secure && (hcr & (TGE | IMO))))

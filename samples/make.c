@@ -57,8 +57,8 @@ static struct trace start_of_zeros(void)
     return t;
 }
 
-/* One event through the proved step, recorded as it went. */
-static void step(struct trace *t, uint32_t code, uint32_t a, uint32_t b)
+/* A Step's record with its event, and the block as it stands. */
+static uint8_t *record_event(struct trace *t, uint32_t code, uint32_t a, uint32_t b)
 {
     uint8_t *record = t->bytes + t->length;
     if (t->steps == MOST)
@@ -67,10 +67,24 @@ static void step(struct trace *t, uint32_t code, uint32_t a, uint32_t b)
     pomurica_put_word(record, 1, code);
     pomurica_put_word(record, 2, a);
     pomurica_put_word(record, 3, b);
-    pomurica_step(t->block, sizeof t->block, code, a, b, record + 16, POMURICA_ANSWER_SIZE);
     memcpy(record + 24, t->block, sizeof t->block);
     t->length += POMURICA_STEP_SIZE;
     t->steps++;
+    return record;
+}
+
+/* One event through the proved step, recorded as it went. */
+static void step(struct trace *t, uint32_t code, uint32_t a, uint32_t b)
+{
+    uint8_t *record = record_event(t, code, a, b);
+    pomurica_step(t->block, sizeof t->block, code, a, b, record + 16, POMURICA_ANSWER_SIZE);
+    memcpy(record + 24, t->block, sizeof t->block);
+}
+
+/* One event as a recorder shows it that takes it for done and for nothing: DONE, the value 0, and the block as it was. */
+static void show_nothing(struct trace *t, uint32_t code, uint32_t a, uint32_t b)
+{
+    record_event(t, code, a, b);
 }
 
 static void finish(struct trace *t)
@@ -164,6 +178,11 @@ int main(void)
     step(&t, POMURICA_EVENT_NOTE, POMURICA_PLACE_CPSR, POMURICA_MODE_SUPERVISOR);
     finish(&t);
     write_file("nothing-done.trace", &t);
+
+    t = start(POMURICA_MODE_USER | POMURICA_CPSR_I, POMURICA_SCR_NS, POMURICA_HCR_TGE);
+    show_nothing(&t, POMURICA_EVENT_INTERRUPT_CHECK, POMURICA_LINE_IRQ, 0); /* by the rule that was before No. 5 */
+    finish(&t);
+    write_file("masked-under-tge.trace", &t);
 
     memset(&t, 0, sizeof t);
     t.length = 300;

@@ -1,7 +1,7 @@
 """
-The decision table of No. 4 of document 02, from the masking table and the
-routing sentence of document 01, written from the papers alone.  It shares
-nothing with step.c: it is a third way to the same 256 entries.
+The decision table of No. 4 of document 02, with its No. 5, from the masking
+table and the routing sentence of document 01, written from the papers alone.
+It shares nothing with step.c: it is a third way to the same 256 entries.
 
     python3 decisions.py
 """
@@ -57,7 +57,7 @@ def entry_of(index):
         return NO_CLASS
     if not pending:
         return NOT_TAKEN
-    if mask and mask_bit_of(state, m, r, w) == OBEYED:
+    if mask and mask_bit_of(state, m | tge, r, w) == OBEYED:  # No. 5: "the stored bit or TGE"
         return NOT_TAKEN
     return target_of(state, m, tge, r)
 

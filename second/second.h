@@ -1,8 +1,9 @@
 /*
- * A second implementation of document 01, and of No. 1 and No. 2 of document
- * 02, written from the papers alone, to be held against the proved one.  Each
- * function returns the number; none keeps anything between calls.  (NULL, 0) is
- * an empty buffer, and an empty list.
+ * A second implementation of document 01, and of No. 1, No. 2 and No. 5 of
+ * document 02, written from the papers alone, to be held against the proved
+ * one.  (No. 3 changes no answer, and the table of No. 4 is printed by
+ * decisions.py.)  Each function returns the number; none keeps anything between
+ * calls.  (NULL, 0) is an empty buffer, and an empty list.
  */
 #ifndef SECOND_H
 #define SECOND_H

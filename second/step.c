@@ -1,7 +1,7 @@
 /*
- * The step, in the order of document 01.  The block's bytes are read into
- * words once, every rule speaks of words, and they go back as bytes only when
- * the step is DONE.
+ * The step, in the order of document 01, with No. 5 of document 02.  The
+ * block's bytes are read into words once, every rule speaks of words, and they
+ * go back as bytes only when the step is DONE.
  */
 #include "second.h"
 #include "words.h"
@@ -566,6 +566,12 @@ static enum states state_of(const struct block *block)
     return mode_of(block) == MODE_HYP ? HYP : NOT_HYP;
 }
 
+/* No. 5: "M in the masking table is the stored bit or TGE", in every row; nothing else asks for this M. */
+static bool m_of_masking(const struct block *block, const struct interrupt *interrupt)
+{
+    return is_one(block, HCR, interrupt->m) || is_one(block, HCR, HCR_TGE);
+}
+
 /* The interrupt check: whether a cell of the table fits a bit. */
 static bool fits(uint32_t cell, bool bit)
 {
@@ -576,7 +582,7 @@ static bool fits(uint32_t cell, bool bit)
 static enum mask_bit mask_bit_of(const struct block *block, const struct interrupt *interrupt)
 {
     const uint32_t state = state_of(block);
-    const bool m = is_one(block, HCR, interrupt->m);
+    const bool m = m_of_masking(block, interrupt);
     const bool r = is_one(block, SCR, interrupt->r);
     const bool w = w_of(block, interrupt);
 
@@ -588,7 +594,7 @@ static enum mask_bit mask_bit_of(const struct block *block, const struct interru
     return OBEYED; /* not reached: the seven rows leave nothing out */
 }
 
-/* The interrupt check: "pending". */
+/* The interrupt check: "pending"; No. 5: "Virtual exceptions stay off under TGE", so M is the stored bit. */
 static bool is_pending(const struct block *block, const struct interrupt *interrupt,
                        uint32_t lines)
 {

@@ -1,7 +1,7 @@
 /*
  * The worked cases of document 01, "Numbers to hold against it", a to l, and
- * cases of our own for No. 1 and No. 2 of document 02: each is run and printed.
- * Exit status 1 if one differs.
+ * cases of our own for No. 1, No. 2 and No. 5 of document 02: each is run and
+ * printed.  Exit status 1 if one differs.
  *
  *     cc -std=c11 -Wall -Wextra -Werror -O2 -I../host step.c batch.c check.c count.c test.c -o test && ./test
  */
@@ -20,13 +20,13 @@ struct named {
     uint32_t word;
 };
 
-/* Numbers to hold against it: a row; words of the start not named are 0. */
+/* Numbers to hold against it: a row, also of our own; words of the start not named are 0. */
 struct worked_case {
     const char *name;
     uint32_t start[PLACES];
     uint32_t code, a;
     uint32_t number, value;
-    struct named after[3];
+    struct named after[4];
     uint32_t named;
     bool unchanged;
 };
@@ -100,7 +100,7 @@ static void tell(bool right)
     differing += !right;
 }
 
-/* Numbers to hold against it: one of a to k; prints it, and whether it is as the paper has it. */
+/* Numbers to hold against it: a row; prints it, and whether it is as the paper has it. */
 static void run_case(const struct worked_case *worked)
 {
     uint8_t before[BLOCK_SIZE], block[BLOCK_SIZE], answer[ANSWER_SIZE];
@@ -229,7 +229,7 @@ static void run_count(const char *name, const uint8_t *trace, size_t length, uin
     tell(returned == number);
 }
 
-/* No. 1: prints how long the lines of the counts are; right if they are that text, and have no room in one byte fewer. */
+/* No. 1: prints how long the lines of the counts are; right if they are that text, without room in a byte fewer. */
 static void run_lines(const char *name, const uint8_t *counts, const char *text)
 {
     const size_t length = strlen(text);
@@ -375,6 +375,99 @@ static void run_batches(void)
     run_lengths("none, 175", 0, 0, BLOCK_SIZE - 1, BAD_SIZE);
 }
 
+/* No. 5: HCR with each virtual source set, and with each override bit 1. */
+#define SOURCES (HCR_VA | HCR_VF | HCR_VI)
+#define OVERRIDES (HCR_AMO | HCR_FMO | HCR_IMO)
+
+/* No. 5: with TGE 1 and the override bit 0, or as said; the entries are those of decisions.py. */
+static const struct worked_case TGE_CASES[] = {
+    { .name = "IRQ, User", /* entry 87: "now takes an IRQ" */
+      .start = { [SCR] = SCR_NS, [HCR] = HCR_TGE, [CPSR] = 0x90, [PC] = 0x8000, [HVBAR] = 0x20000000 },
+      .code = CODE_INTERRUPT_CHECK, .a = LINE_IRQ, .value = 0x31A18,
+      .after = { { CPSR, 0x1DA }, { SPSR_hyp, 0x90 }, { ELR_hyp, 0x8000 }, { HCR, HCR_TGE } }, .named = 4 },
+    { .name = "FIQ, User", /* entry 83 */
+      .start = { [SCR] = SCR_NS, [HCR] = HCR_TGE, [CPSR] = 0x50, [PC] = 0x8000, [HVBAR] = 0x20000000 },
+      .code = CODE_INTERRUPT_CHECK, .a = LINE_FIQ, .value = 0x21A1C,
+      .after = { { CPSR, 0x1DA }, { ELR_hyp, 0x8000 }, { PC, 0x2000001C }, { HCR, HCR_TGE } }, .named = 4 },
+    { .name = "SError, AW", /* entry 87; from another mode at 0x14 */
+      .start = { [SCR] = SCR_NS | SCR_AW, [HCR] = HCR_TGE, [CPSR] = 0x110, [PC] = 0x8000 },
+      .code = CODE_INTERRUPT_CHECK, .a = LINE_SERROR, .value = 0x11A14,
+      .after = { { CPSR, 0x1DA }, { ELR_hyp, 0x8000 }, { HCR, HCR_TGE } }, .named = 3 },
+    { .name = "IRQ, R 1", /* entry 119 */
+      .start = { [SCR] = SCR_NS | SCR_IRQ, [HCR] = HCR_TGE, [CPSR] = 0x90, [PC] = 0x8000 },
+      .code = CODE_INTERRUPT_CHECK, .a = LINE_IRQ, .value = 0x31618,
+      .after = { { CPSR, 0x1D6 }, { LR_mon, 0x8004 }, { SCR, SCR_NS | SCR_IRQ }, { HCR, HCR_TGE } }, .named = 4 },
+    { .name = "IRQ, Hyp", /* entry 183 */
+      .start = { [SCR] = SCR_NS | SCR_IRQ, [HCR] = HCR_TGE, [CPSR] = 0x9A, [PC] = 0x8000 },
+      .code = CODE_INTERRUPT_CHECK, .a = LINE_IRQ, .value = 0x31618,
+      .after = { { CPSR, 0x1D6 }, { SPSR_mon, 0x9A }, { LR_mon, 0x8004 }, { HCR, HCR_TGE } }, .named = 4 },
+    { .name = "FIQ, Hyp, FW", /* entry 183 */
+      .start = { [SCR] = SCR_NS | SCR_FIQ | SCR_FW, [HCR] = HCR_TGE, [CPSR] = 0x5A, [PC] = 0x8000 },
+      .code = CODE_INTERRUPT_CHECK, .a = LINE_FIQ, .value = 0x2161C,
+      .after = { { CPSR, 0x1D6 }, { SPSR_mon, 0x5A }, { HCR, HCR_TGE } }, .named = 3 },
+    { .name = "Hyp, R 0", /* entry 151: obeyed with M 0 and with M 1 */
+      .start = { [SCR] = SCR_NS, [HCR] = HCR_TGE, [CPSR] = 0x9A, [PC] = 0x8000 },
+      .code = CODE_INTERRUPT_CHECK, .a = LINE_IRQ, .value = 0, .unchanged = true },
+    { .name = "Secure", /* entry 55: "Secure | any | any | any | obeyed" */
+      .start = { [SCR] = SCR_IRQ, [HCR] = HCR_TGE, [CPSR] = 0x90, [PC] = 0x8000 },
+      .code = CODE_INTERRUPT_CHECK, .a = LINE_IRQ, .value = 0, .unchanged = true },
+    { .name = "Monitor, NS", /* entry 55: Secure, whatever NS says */
+      .start = { [SCR] = SCR_NS | SCR_IRQ, [HCR] = HCR_TGE, [CPSR] = 0x96, [PC] = 0x8000 },
+      .code = CODE_INTERRUPT_CHECK, .a = LINE_IRQ, .value = 0, .unchanged = true },
+    { .name = "virtual IRQ", /* "Virtual exceptions stay off under TGE" */
+      .start = { [SCR] = SCR_NS, [HCR] = HCR_TGE, [CPSR] = 0x10, [PC] = 0x8000 },
+      .code = CODE_INTERRUPT_CHECK, .a = LINE_VIRQ, .value = 0, .unchanged = true },
+    { .name = "virtual, M 0",
+      .start = { [SCR] = SCR_NS, [HCR] = HCR_TGE | SOURCES, [CPSR] = 0x10, [PC] = 0x8000 },
+      .code = CODE_INTERRUPT_CHECK, .a = LINE_VFIQ | LINE_VIRQ, .value = 0, .unchanged = true },
+    { .name = "virtual, M 1",
+      .start = { [SCR] = SCR_NS, [HCR] = HCR_TGE | SOURCES | OVERRIDES, [CPSR] = 0x10, [PC] = 0x8000 },
+      .code = CODE_INTERRUPT_CHECK, .a = LINE_VFIQ | LINE_VIRQ, .value = 0, .unchanged = true },
+    { .name = "TGE 0, M 0", /* a virtual one goes by the stored bit */
+      .start = { [SCR] = SCR_NS, [HCR] = SOURCES, [CPSR] = 0x10, [PC] = 0x8000 },
+      .code = CODE_INTERRUPT_CHECK, .a = LINE_VFIQ | LINE_VIRQ, .value = 0, .unchanged = true },
+    { .name = "IRQ, TGE 0", /* entry 71: as document 01 has it */
+      .start = { [SCR] = SCR_NS, [CPSR] = 0x90, [PC] = 0x8000 },
+      .code = CODE_INTERRUPT_CHECK, .a = LINE_IRQ, .value = 0, .unchanged = true },
+};
+
+/* No. 5: how many of our own. */
+#define TGE_CASE_COUNT (sizeof TGE_CASES / sizeof TGE_CASES[0])
+
+/* No. 5: the first case as a trace of one Step, with the former answer or with that of the rules. */
+static void record_tge(uint8_t *trace, bool former)
+{
+    uint8_t *step = trace + START_LENGTH, *end = step + STEP_LENGTH;
+
+    memset(trace, 0, START_LENGTH + STEP_LENGTH + END_LENGTH);
+    put_header(trace, START_LENGTH, 1);
+    put_word(trace + START_COUNT, 1);
+    for (uint32_t place = 0; place < PLACES; place++)
+        put_word(trace + START_BLOCK + 4 * place, TGE_CASES[0].start[place]);
+    put_header(step, STEP_LENGTH, 2);
+    put_word(step + STEP_CODE, TGE_CASES[0].code);
+    put_word(step + STEP_A, TGE_CASES[0].a);
+    memcpy(step + STEP_BLOCK, trace + START_BLOCK, BLOCK_SIZE);
+    if (!former)
+        second_step(step + STEP_BLOCK, BLOCK_SIZE, TGE_CASES[0].code, TGE_CASES[0].a, 0,
+                    step + STEP_ANSWER, ANSWER_SIZE);
+    put_header(end, END_LENGTH, 3);
+    put_word(end + END_COUNT, 1);
+}
+
+/* No. 5: "old traces that show the former answer are now WRONG_STEP". */
+static void run_tge(void)
+{
+    uint8_t trace[START_LENGTH + STEP_LENGTH + END_LENGTH];
+
+    for (size_t i = 0; i < TGE_CASE_COUNT; i++)
+        run_case(&TGE_CASES[i]);
+    record_tge(trace, true);
+    run_trace("trace before", trace, sizeof trace, WRONG_STEP, START_LENGTH, 0);
+    record_tge(trace, false);
+    run_trace("trace after", trace, sizeof trace, DONE, sizeof trace, 1);
+}
+
 int main(void)
 {
     for (size_t i = 0; i < CASE_COUNT; i++)
@@ -382,6 +475,7 @@ int main(void)
     run_l();
     run_counts();
     run_batches();
+    run_tge();
     printf("%u passed, %u failed\n", run - differing, differing);
     return differing == 0 ? 0 : 1;
 }

@@ -75,6 +75,9 @@ static void show_taken(void)
     show("nothing taken", met.nothing_taken);
     for (uint32_t row = 0; row < ROWS; row++)
         show(MASKING[row], met.row[row]);
+    show("not Hyp, M by TGE alone", met.by_tge_alone[4]);
+    show("Hyp, R 0, M by TGE alone", met.by_tge_alone[5]);
+    show("Hyp, R 1, M by TGE alone", met.by_tge_alone[6]);
 }
 
 static void show_ways(void)

@@ -23,7 +23,7 @@ static struct steering steering_of(const uint8_t *block)
     return words;
 }
 
-/* The row of the masking table for a physical exception with these M, R and W. */
+/* The row of the masking table for a physical exception with these M, R and W; M is the stored bit or TGE. */
 static uint32_t row_of(const struct steering *before, bool m, bool r, bool w)
 {
     if (!before->non_secure)
@@ -48,15 +48,18 @@ static void count_rows(const struct steering *before, uint32_t lines)
     static const bool IGNORED[ROWS] = { [2] = true, [4] = true, [6] = true };
 
     for (size_t i = 0; i < sizeof PHYSICAL / sizeof PHYSICAL[0]; i++) {
+        const bool stored = (before->hcr & PHYSICAL[i].m) != 0, tge = (before->hcr & HCR_TGE) != 0;
         uint32_t row;
 
         if ((lines & PHYSICAL[i].line) == 0)
             continue;
         if ((before->cpsr & PHYSICAL[i].mask) == 0)
             return;
-        row = row_of(before, (before->hcr & PHYSICAL[i].m) != 0, (before->scr & PHYSICAL[i].r) != 0,
+        row = row_of(before, stored || tge, (before->scr & PHYSICAL[i].r) != 0,
                      PHYSICAL[i].w == 0 || (before->scr & PHYSICAL[i].w) != 0);
         met.row[row]++;
+        if (!stored && tge)
+            met.by_tge_alone[row]++;
         if (IGNORED[row])
             return;
     }

@@ -60,6 +60,7 @@ struct met {
     unsigned long way[WAYS + 1];
     unsigned long nothing_taken;
     unsigned long row[ROWS]; /* an exception is pending, its mask bit is 1, the row decides */
+    unsigned long by_tge_alone[ROWS]; /* the same, M being 1 by TGE and not by its own bit */
     unsigned long largest[CODES], above[CODES]; /* by code: A at its largest, and one above */
     unsigned long b_bit[CODES][BITS];           /* by code: B is this bit alone */
     unsigned long spoilt[STEERING_WORDS][FAULTS]; /* a refused note: this fault alone */

@@ -2,13 +2,13 @@
 -- any state with the bits of its index, whether the physical exception is taken, and where it goes.
 use mathlib.Core.Path.{_≡_, refl, sym, ap, _∙_}
 use mathlib.Core.Bool.{Bool, true, false, not, _&&_, _||_}
-use mathlib.Core.List.{List, [], _∷_}
+use mathlib.Core.List.{List, [], _∷_, map}
 use Prim.Native.Nat.{ℕ, _/_, _%_, _<_, _≤_}
 use native.Mathlib.Omega.{arith}
-use lib.Dec.{eqb, leb, lit<}
+use lib.Dec.{eqb, leb, ltb, lit<}
 use lib.ListN.{getD}
-use borrow.Author.Tests.{eqb-true, le-leb}
-use Rattle.state.specs.Choice.{if_then_else_, _is_}
+use borrow.Author.Tests.{eqb-true, le-leb, ltb-true, ltb-false}
+use Rattle.state.specs.Choice.{if_then_else_, _is_, _among_}
 use Rattle.state.specs.Field.{mode-field, HCR-TGE}
 use Rattle.state.specs.Mode.{MONITOR, HYP}
 use Rattle.state.specs.State.{secure}
@@ -16,6 +16,7 @@ use Rattle.state.proofs.Test.{everyBelow, at-below, everyBit, at-bit, true-is-n
 use Rattle.interrupts.specs.Check.{goes}
 use Rattle.interrupts.specs.Decision.{entry, index, indexOf, classOf, targetNumber, NOT-TAKEN, TO-MONITOR, TO-HYP, TO-DEFAULT, NO-CLASS, physical}
 use Rattle.interrupts.specs.Exception.{Exception, SError, Fiq, Irq}
+use Rattle.interrupts.specs.Former.{entryAsStored, changed}
 use Rattle.interrupts.specs.Kind.{Kind, serror, fiq, irq, line, R, M, W, mask, ownMode}
 use Rattle.interrupts.specs.Masking.{obeyed}
 use Rattle.interrupts.specs.Takeable.{pending, masked, takeable, physicalMasked}
@@ -27,13 +28,13 @@ decisions =
     ∷ (0 ∷ 1 ∷ 0 ∷ 0 ∷ 0 ∷ 1 ∷ 0 ∷ 0 ∷ 0 ∷ 1 ∷ 0 ∷ 0 ∷ 0 ∷ 1 ∷ 0 ∷ 0 ∷ [])
     ∷ (0 ∷ 1 ∷ 0 ∷ 0 ∷ 0 ∷ 1 ∷ 0 ∷ 0 ∷ 0 ∷ 1 ∷ 0 ∷ 0 ∷ 0 ∷ 1 ∷ 0 ∷ 0 ∷ [])
     ∷ (0 ∷ 3 ∷ 0 ∷ 0 ∷ 0 ∷ 3 ∷ 0 ∷ 0 ∷ 0 ∷ 2 ∷ 0 ∷ 2 ∷ 0 ∷ 2 ∷ 0 ∷ 2 ∷ [])
-    ∷ (0 ∷ 2 ∷ 0 ∷ 0 ∷ 0 ∷ 2 ∷ 0 ∷ 0 ∷ 0 ∷ 2 ∷ 0 ∷ 2 ∷ 0 ∷ 2 ∷ 0 ∷ 2 ∷ [])
+    ∷ (0 ∷ 2 ∷ 0 ∷ 2 ∷ 0 ∷ 2 ∷ 0 ∷ 2 ∷ 0 ∷ 2 ∷ 0 ∷ 2 ∷ 0 ∷ 2 ∷ 0 ∷ 2 ∷ [])
     ∷ (0 ∷ 1 ∷ 0 ∷ 1 ∷ 0 ∷ 1 ∷ 0 ∷ 0 ∷ 0 ∷ 1 ∷ 0 ∷ 1 ∷ 0 ∷ 1 ∷ 0 ∷ 1 ∷ [])
-    ∷ (0 ∷ 1 ∷ 0 ∷ 1 ∷ 0 ∷ 1 ∷ 0 ∷ 0 ∷ 0 ∷ 1 ∷ 0 ∷ 1 ∷ 0 ∷ 1 ∷ 0 ∷ 1 ∷ [])
+    ∷ (0 ∷ 1 ∷ 0 ∷ 1 ∷ 0 ∷ 1 ∷ 0 ∷ 1 ∷ 0 ∷ 1 ∷ 0 ∷ 1 ∷ 0 ∷ 1 ∷ 0 ∷ 1 ∷ [])
     ∷ (0 ∷ 2 ∷ 0 ∷ 0 ∷ 0 ∷ 2 ∷ 0 ∷ 0 ∷ 0 ∷ 2 ∷ 0 ∷ 0 ∷ 0 ∷ 2 ∷ 0 ∷ 0 ∷ [])
     ∷ (0 ∷ 2 ∷ 0 ∷ 0 ∷ 0 ∷ 2 ∷ 0 ∷ 0 ∷ 0 ∷ 2 ∷ 0 ∷ 0 ∷ 0 ∷ 2 ∷ 0 ∷ 0 ∷ [])
     ∷ (0 ∷ 1 ∷ 0 ∷ 1 ∷ 0 ∷ 1 ∷ 0 ∷ 0 ∷ 0 ∷ 1 ∷ 0 ∷ 1 ∷ 0 ∷ 1 ∷ 0 ∷ 1 ∷ [])
-    ∷ (0 ∷ 1 ∷ 0 ∷ 1 ∷ 0 ∷ 1 ∷ 0 ∷ 0 ∷ 0 ∷ 1 ∷ 0 ∷ 1 ∷ 0 ∷ 1 ∷ 0 ∷ 1 ∷ [])
+    ∷ (0 ∷ 1 ∷ 0 ∷ 1 ∷ 0 ∷ 1 ∷ 0 ∷ 1 ∷ 0 ∷ 1 ∷ 0 ∷ 1 ∷ 0 ∷ 1 ∷ 0 ∷ 1 ∷ [])
     ∷ (4 ∷ 4 ∷ 4 ∷ 4 ∷ 4 ∷ 4 ∷ 4 ∷ 4 ∷ 4 ∷ 4 ∷ 4 ∷ 4 ∷ 4 ∷ 4 ∷ 4 ∷ 4 ∷ [])
     ∷ (4 ∷ 4 ∷ 4 ∷ 4 ∷ 4 ∷ 4 ∷ 4 ∷ 4 ∷ 4 ∷ 4 ∷ 4 ∷ 4 ∷ 4 ∷ 4 ∷ 4 ∷ 4 ∷ [])
     ∷ (4 ∷ 4 ∷ 4 ∷ 4 ∷ 4 ∷ 4 ∷ 4 ∷ 4 ∷ 4 ∷ 4 ∷ 4 ∷ 4 ∷ 4 ∷ 4 ∷ 4 ∷ 4 ∷ [])
@@ -54,6 +55,31 @@ pub decision-out : (i : ℕ) → 256 ≤ i → NO-CLASS ≡ entry i
 unfolding entry
 decision-out i l = let h : 3 ≤ i / 64 = omega arith in rw (le-leb 3 (i / 64) h)
 
+-- ---- what No. 5 changed: four entries, and no other
+
+pub four-changed : (i : ℕ) → (i among changed) ≡ false → entry i ≡ entryAsStored i
+unfolding entry entryAsStored takeable pending masked obeyed
+four-changed i n = by (ltb i 256) refl
+  where
+    same-there : ℕ → Bool
+    same-there i = i among changed || eqb (entry i) (entryAsStored i)
+
+    by : (t : Bool) → ltb i 256 ≡ t → entry i ≡ entryAsStored i
+    by true e =
+        let h = at-below 256 same-there refl i (ltb-true i 256 e) in eqb-true (entry i) (entryAsStored i) (rw n at h)
+    by false e =
+        let l = ltb-false i 256 e in
+        let c : 3 ≤ i / 64 = omega arith in
+        rw (le-leb 3 (i / 64) c)
+
+pub they-were : map entryAsStored changed ≡ 0 ∷ 0 ∷ 0 ∷ 0 ∷ []
+unfolding entryAsStored obeyed
+they-were = refl
+
+pub they-are : map entry changed ≡ 2 ∷ 2 ∷ 1 ∷ 1 ∷ []
+unfolding entry takeable pending masked obeyed
+they-are = refl
+
 -- ---- an entry by its bits
 
 -- the number of where it goes, if it is taken
@@ -65,7 +91,7 @@ numberBy r to-hyp =
 
 abbrev entryBy : Bool → Bool → Bool → Bool → Bool → Bool → Bool → Bool → ℕ
 entryBy p msk w m tge r sec hyp =
-    if p && not (obeyed sec hyp m r w && msk) then numberBy r (hyp || (not sec && (tge || m))) else NOT-TAKEN
+    if p && not (obeyed sec hyp (m || tge) r w && msk) then numberBy r (hyp || (not sec && (tge || m))) else NOT-TAKEN
 
 abbrev agrees : Bool → Bool → Bool → Bool → Bool → Bool → ℕ → Bool
 agrees p msk w m tge r c = eqb (entry (index p msk w m tge r c)) (entryBy p msk w m tge r (c is 0) (c is 2))

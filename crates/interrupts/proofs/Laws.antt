@@ -14,7 +14,7 @@ use Rattle.state.proofs.Test.{same, same-eq, everyBit, at-bit}
 use Rattle.interrupts.specs.Check.{firstOf, found}
 use borrow.Author.Tests.{eqb-false}
 use Rattle.interrupts.specs.Exception.{Exception, Synchronous, SError, Fiq, Irq, VirtualSError, VirtualFiq, VirtualIrq, which}
-use Rattle.interrupts.specs.Kind.{Kind, serror, fiq, irq, line, R, M, W, mask, source}
+use Rattle.interrupts.specs.Kind.{Kind, serror, fiq, irq, line, R, M, acting-M, W, mask, source}
 use Rattle.interrupts.specs.Masking.{Row, table, covers, fits, obeyed}
 use Rattle.interrupts.specs.Parts.{virtualHere, takenIf, takesVirtual}
 use Rattle.interrupts.specs.Takeable.{physicalMasked, virtualPending, pending, masked, takeable}
@@ -99,12 +99,14 @@ pub virtual-tests : (k : Kind) (lines cpsr hcr : ℕ) {m src msk v : Bool} → m
     → msk ≡ mask k cpsr → v ≡ takenIf m src msk → v ≡ takesVirtual k lines cpsr hcr
 virtual-tests k lines cpsr hcr p q r e = cc
 
--- the same of a physical exception, whose line is asked apart from what masks it
-pub physical-tests : (k : Kind) (lines cpsr scr hcr : ℕ) {msk sec hyp m r w v : Bool} → msk ≡ mask k cpsr
-    → sec ≡ secure cpsr scr → hyp ≡ (mode-field cpsr is HYP) → m ≡ M k hcr → r ≡ R k scr → w ≡ W k scr
-    → v ≡ (line k lines && not (obeyed sec hyp m r w && msk)) → v ≡ (line k lines && not (physicalMasked k cpsr scr hcr))
-physical-tests k lines cpsr scr hcr msk sec hyp m r w e =
-    e ∙ (λ i. line k lines && not (obeyed (sec i) (hyp i) (m i) (r i) (w i) && msk i))
+-- the same of a physical exception, whose line is asked apart from what masks it; its override bit acts with TGE
+pub physical-tests : (k : Kind) (lines cpsr scr hcr : ℕ) {msk sec hyp stored m r w v : Bool} → msk ≡ mask k cpsr
+    → sec ≡ secure cpsr scr → hyp ≡ (mode-field cpsr is HYP) → stored ≡ M k hcr → m ≡ (stored || HCR-TGE hcr) → r ≡ R k scr
+    → w ≡ W k scr → v ≡ (line k lines && not (obeyed sec hyp m r w && msk))
+    → v ≡ (line k lines && not (physicalMasked k cpsr scr hcr))
+physical-tests k lines cpsr scr hcr {m = m} msk sec hyp stored acts r w e =
+    let acting : m ≡ acting-M k hcr = acts ∙ ap (λ o. o || HCR-TGE hcr) stored in
+    e ∙ (λ i. line k lines && not (obeyed (sec i) (hyp i) (acting i) (r i) (w i) && msk i))
 
 -- none of the physical exceptions can be taken
 abbrev pub NonePhysical : ℕ → ℕ → ℕ → ℕ → Type 0

@@ -3,7 +3,7 @@
 use mathlib.Core.Bool.{Bool, true, _||_}
 use Prim.Native.Nat.{ℕ}
 use Rattle.state.specs.Field.{bit, CPSR-A, CPSR-I, CPSR-F, SCR-IRQ, SCR-FIQ, SCR-EA, SCR-FW, SCR-AW, HCR-FMO, HCR-IMO}
-use Rattle.state.specs.Field.{HCR-AMO, HCR-VF, HCR-VI, HCR-VA}
+use Rattle.state.specs.Field.{HCR-AMO, HCR-VF, HCR-VI, HCR-VA, HCR-TGE}
 use Rattle.state.specs.Mode.{FIQ, IRQ, ABORT}
 use Rattle.entry.specs.Offset as offsets
 
@@ -29,6 +29,10 @@ abbrev pub M : Kind → ℕ → Bool
 M serror hcr = HCR-AMO hcr
 M fiq hcr = HCR-FMO hcr
 M irq hcr = HCR-IMO hcr
+
+-- and the value by which it acts on masking: "M in the masking table is the stored bit or TGE" (document 02, No. 5)
+abbrev pub acting-M : Kind → ℕ → Bool
+acting-M k hcr = M k hcr || HCR-TGE hcr
 
 -- "W is AW, FW, or for IRQ the value 1"
 abbrev pub W : Kind → ℕ → Bool

@@ -4,4 +4,5 @@ pub mod Masking
 pub mod Takeable
 pub mod Check
 pub mod Decision
+pub mod Former
 pub mod Parts

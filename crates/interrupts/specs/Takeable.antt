@@ -6,12 +6,12 @@ use Rattle.state.specs.Field.{mode-field, HCR-TGE}
 use Rattle.state.specs.Mode.{HYP}
 use Rattle.state.specs.State.{secure, nsEl1, nsUser}
 use Rattle.interrupts.specs.Exception.{Exception, Synchronous, SError, Fiq, Irq, VirtualSError, VirtualFiq, VirtualIrq}
-use Rattle.interrupts.specs.Kind.{Kind, serror, fiq, irq, line, R, M, W, mask, source}
+use Rattle.interrupts.specs.Kind.{Kind, serror, fiq, irq, line, R, M, acting-M, W, mask, source}
 use Rattle.interrupts.specs.Masking.{obeyed}
 
 -- the masking table's answer for a kind
 abbrev pub isObeyed : Kind → ℕ → ℕ → ℕ → Bool
-isObeyed k cpsr scr hcr = obeyed (secure cpsr scr) (mode-field cpsr is HYP) (M k hcr) (R k scr) (W k scr)
+isObeyed k cpsr scr hcr = obeyed (secure cpsr scr) (mode-field cpsr is HYP) (acting-M k hcr) (R k scr) (W k scr)
 
 -- "A physical exception is pending if its line is set"; it is masked if its mask bit is set and obeyed
 abbrev pub physicalMasked : Kind → ℕ → ℕ → ℕ → Bool

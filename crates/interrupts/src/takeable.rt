@@ -1,6 +1,7 @@
 // Which of the six exceptions can be taken (document 01, "The interrupt check").
 ghost use mathlib.Core.Path.{_≡_};
-ghost use mathlib.Core.Bool.{_&&_, not};
+ghost use mathlib.Core.Bool.{_&&_, not, _||_};
+ghost use Rattle.state.specs.Field.{HCR-TGE};
 ghost use Rattle.interrupts.specs.Exception.{SError, Fiq, Irq};
 ghost use Rattle.interrupts.specs.Kind.{serror, fiq, irq};
 ghost use Rattle.interrupts.specs.Masking.{obeyed};
@@ -43,6 +44,13 @@ fn is_obeyed(secure: bool, hyp: bool, m: bool, r: bool, w: bool) -> bool
     }
 }
 
+// An override bit acts on masking as itself or TGE; it stays in HCR as it was written.
+fn acting(m: bool, hcr: u32) -> bool
+    ensures { λ v. ⌜ v ≡ (m || HCR-TGE hcr) ⌝ }
+{
+    either(m, hcr_tge(hcr))
+}
+
 // A physical exception can be taken if its line is set and its mask bit is clear or not obeyed.
 fn takes(line: bool, mask: bool, secure: bool, hyp: bool, m: bool, r: bool, w: bool) -> bool
     ensures { λ v. ⌜ v ≡ (line && not (obeyed secure hyp m r w && mask)) ⌝ }
@@ -66,7 +74,7 @@ pub fn takes_serror(lines: u32, cpsr: u32, scr: u32, hcr: u32) -> bool
         cpsr_a(cpsr),
         is_secure(cpsr, scr),
         is_hyp(cpsr),
-        hcr_amo(hcr),
+        acting(hcr_amo(hcr), hcr),
         scr_ea(scr),
         scr_aw(scr),
     )
@@ -80,7 +88,7 @@ pub fn takes_fiq(lines: u32, cpsr: u32, scr: u32, hcr: u32) -> bool
         cpsr_f(cpsr),
         is_secure(cpsr, scr),
         is_hyp(cpsr),
-        hcr_fmo(hcr),
+        acting(hcr_fmo(hcr), hcr),
         scr_fiq(scr),
         scr_fw(scr),
     )
@@ -94,7 +102,7 @@ pub fn takes_irq(lines: u32, cpsr: u32, scr: u32, hcr: u32) -> bool
         cpsr_i(cpsr),
         is_secure(cpsr, scr),
         is_hyp(cpsr),
-        hcr_imo(hcr),
+        acting(hcr_imo(hcr), hcr),
         scr_irq(scr),
         true,
     )

@@ -1,5 +1,5 @@
--- The starred cases a to j of document 01 ("Numbers to hold against it"), as one list under one statement.
--- antt computes it.
+-- The starred cases a to j of document 01 ("Numbers to hold against it"), as one list under one statement, and those that later
+-- requests name. antt computes them.
 use mathlib.Core.Path.{_≡_, refl}
 use mathlib.Core.Bool.{Bool, true, _&&_}
 use mathlib.Core.List.{List, [], _∷_}
@@ -106,3 +106,21 @@ unfolding spelt put known el1 guest spsrPlace lrPlace good nsCleared masksAfter 
     synchronous.notHere synchronous.way interrupt.found interrupt.way obeyed pending masked takeable cell denied
     right badEvent refusal doneAction action answer after value
 starred = refl
+
+-- ---- No. 5 of document 02
+
+abbrev under-tge : List Case
+under-tge =
+    -- "Non-secure User with TGE 1, IMO 0 and PSTATE.I 1 now takes an IRQ", to Hyp; "the stored word stays as written"
+    gives ((HCR, 0x08000000) ∷ with 1 0x90) INTERRUPT-CHECK 4 0x31A18
+    ((CPSR, 0x1DA) ∷ (ELR-hyp, 0x8000) ∷ (HCR, 0x08000000) ∷ [])
+    -- "Virtual exceptions stay off under TGE": IMO 1, VI 1 and the virtual line
+    ∷ gives ((HCR, 0x08000090) ∷ with 1 0x10) INTERRUPT-CHECK 16 0 ((CPSR, 0x10) ∷ (HCR, 0x08000090) ∷ [])
+    ∷ []
+
+pub tge-acts : all under-tge ≡ true
+unfolding spelt put known el1 guest spsrPlace lrPlace good nsCleared masksAfter cpsrAfter vectorBase written entered
+    synchronous.toMonitor synchronous.toHyp synchronous.target synchronous.offset synchronous.link
+    synchronous.notHere synchronous.way interrupt.found interrupt.way obeyed pending masked takeable cell denied
+    right badEvent refusal doneAction action answer after value
+tge-acts = refl

@@ -11,18 +11,20 @@ unfolding takeable pending masked
 returns c =
     let w = c .before in
     let r = w .before in
-    let m = r .before in
+    let acts = r .before in
+    let m = acts .before in
     let hyp = m .before in
     let sec = hyp .before in
     let mask = sec .before in
     let a = mask .before .args in
     physical-tests serror (a .lines) (a .cpsr) (a .scr) (a .hcr) (mask .cpsr-a .ensures) (sec .is-secure .ensures)
-    (hyp .is-hyp .ensures) (m .hcr-amo .ensures) (r .scr-ea .ensures) (w .scr-aw .ensures) (c .takes .ensures)
+    (hyp .is-hyp .ensures) (m .hcr-amo .ensures) (acts .acting .ensures) (r .scr-ea .ensures) (w .scr-aw .ensures) (c .takes .ensures)
 
 pub takes-serror-spec : {M : Type 1} → statement M
 takes-serror-spec =
     tie.close
     (tie.spec
+    (λ c κs. search needs)
     (λ c κs. search needs)
     (λ c κs. search needs)
     (λ c κs. search needs)
