@@ -1,6 +1,6 @@
 /*
- * The step and the checker in plain C, written for speed: the yardstick for
- * the proved ones.  Same calls as host/pomurica.h, same answers.
+ * The step, the checker and the session in plain C, written for speed: the
+ * yardstick for the proved ones.  Same calls as host/pomurica.h, same answers.
  */
 #ifndef SPEED_H
 #define SPEED_H
@@ -18,5 +18,10 @@ uint32_t fast_check(const uint8_t *trace, size_t trace_len,
 /* The same with the C library's memcmp in place of a comparison of its own. */
 uint32_t fast_check_by_memcmp(const uint8_t *trace, size_t trace_len,
                               uint8_t *report, size_t report_len);
+
+struct pomurica_session;
+uint32_t fast_open(struct pomurica_session *session);
+uint32_t fast_feed(struct pomurica_session *session, const uint8_t *bytes, size_t bytes_len);
+uint32_t fast_close(struct pomurica_session *session, uint8_t *report, size_t report_len);
 
 #endif

@@ -10,6 +10,7 @@
 
 static const char USAGE[] =
     "usage: console [--quiet] [--explain] [--trace] [--] FILE...\n"
+    "       console --follow [--quiet] [--] FILE...\n"
     "       console --html [--] FILE > PAGE\n"
     "       console --count [--totals TOTALS] [--quiet] [--] FILE...\n"
     "       console --help\n";
@@ -26,7 +27,18 @@ static const char HELP[] =
     "not shown: bytes that are no UTF-8, control characters, ends of lines, and the\n"
     "controls that turn the direction of the text.\n"
     "\n"
+    "A FILE may have any size, and be a pipe or a device. It is read to its end, also\n"
+    "behind a fault, and judged as the bytes come. --explain, --trace, --html and --count\n"
+    "need it in memory, and read no more than the longest trace has and one byte behind\n"
+    "it. A serial line ends where it hangs up. It is set raw while it is read, and then\n"
+    "back; its speed and parity are left as stty set them. A terminal from which the\n"
+    "console was started is left as it is.\n"
+    "\n"
     "  -         standard input\n"
+    "  --follow  as soon as a fault is known, while the trace still arrives, print\n"
+    "                FILE: NUMBER NAME known after N bytes\n"
+    "            of which the last one made it known; the verdict comes at the end, as\n"
+    "            always. With --quiet alone, which leaves out this line too\n"
     "  --explain under a refused trace, say what was due and what was there; under an\n"
     "            accepted one in which no Step was done, warn that it shows nothing\n"
     "  --trace   under each, list its Steps up to the first wrong one\n"
@@ -64,8 +76,9 @@ static bool *flag_of(struct wish *wish, const char *option)
         const char *name;
         bool *flag;
     } flags[] = {
-        { "--quiet", &wish->quiet }, { "--explain", &wish->explain }, { "--trace", &wish->trace },
-        { "--html", &wish->html },   { "--count", &wish->count },     { "--help", &wish->help },
+        { "--quiet", &wish->quiet }, { "--follow", &wish->follow }, { "--explain", &wish->explain },
+        { "--trace", &wish->trace }, { "--html", &wish->html },     { "--count", &wish->count },
+        { "--help", &wish->help },
     };
 
     for (size_t i = 0; i < sizeof flags / sizeof *flags; i++)
@@ -126,12 +139,14 @@ static bool is_possible(const struct wish *wish)
         return true;
     if (wish->totals != NULL && !wish->count)
         fputs("console: --totals goes with --count: it keeps counts\n", stderr);
-    else if (wish->count && (wish->html || wish->explain || wish->trace))
+    else if (wish->count && (wish->html || wish->explain || wish->trace || wish->follow))
         fputs("console: --count takes --quiet and --totals alone: it is about all traces together\n", stderr);
     else if (wish->html && wish->file_count > 1)
         fputs("console: --html takes one file: a page is about one trace\n", stderr);
-    else if (wish->html && (wish->quiet || wish->explain || wish->trace))
+    else if (wish->html && (wish->quiet || wish->explain || wish->trace || wish->follow))
         fputs("console: --html takes no other option: the page has the verdict, the reason and the Steps\n", stderr);
+    else if (wish->follow && (wish->explain || wish->trace))
+        fputs("console: --follow takes --quiet alone: --explain and --trace look into a trace that is there whole\n", stderr);
     else
         return wish->file_count > 0;
     return false;

@@ -14,7 +14,7 @@ enum status {
 
 /* What the arguments ask for. */
 struct wish {
-    bool quiet, explain, trace, html, count, help;
+    bool quiet, follow, explain, trace, html, count, help;
     const char *totals; /* the totals file, or NULL */
     char **files;       /* the arguments that are files, in order */
     size_t file_count;

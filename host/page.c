@@ -1,6 +1,7 @@
 /* A trace as a page for a browser: see page.h. */
 #include "page.h"
 
+#include "done.h"
 #include "listing.h"
 #include "name.h"
 #include "phrases.h"
@@ -41,6 +42,7 @@ static struct shown look_at(const uint8_t *trace, size_t length, const uint8_t *
     struct shown shown = { .trace = trace, .explanation = explanation };
 
     shown.right = pomurica_get_word(explanation, POMURICA_EXPLANATION_STEPS);
+    shown.done = count_done(trace, shown.right);
     shown.judged = shown.recorded = shown.right;
     if (pomurica_get_word(explanation, POMURICA_EXPLANATION_NUMBER) == POMURICA_WRONG_STEP) {
         shown.judged++;
@@ -70,13 +72,13 @@ static void write_explanation(FILE *out, size_t length, const struct shown *show
 /* The console's line, what --explain says under it, and the ways to a wrong Step. */
 static void write_verdict(FILE *out, const char *name, size_t length, const struct shown *shown)
 {
-    const char *const warning = warning_of(shown->trace, shown->explanation);
+    const char *const warning = warning_of(shown->explanation, shown->done);
 
     fprintf(out, "<header class=\"%s%s\">\n<h1><bdi>", is_accepted(shown) ? "accepted" : "refused",
             warning != NULL ? " warned" : "");
     put_name_in_page(out, name);
     fputs("</bdi>: ", out);
-    tell_verdict(out, shown->trace, shown->explanation);
+    tell_verdict(out, shown->explanation, shown->done);
     fputs("</h1>\n", out);
     write_explanation(out, length, shown, warning);
     if (shown->right < shown->judged)
@@ -96,7 +98,7 @@ void write_page(FILE *out, const char *name, const uint8_t *trace, size_t length
           "<meta name=\"viewport\" content=\"width=device-width, initial-scale=1\">\n<title>", out);
     put_name_in_page(out, name);
     fputs(": ", out);
-    tell_verdict(out, trace, explanation);
+    tell_verdict(out, explanation, shown.done);
     fputs("</title>\n<style>\n", out);
     fputs(STYLE, out);
     fputs("</style>\n</head>\n<body>\n", out);

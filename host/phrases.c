@@ -117,33 +117,31 @@ const char *part_name(uint32_t part)
     return part == POMURICA_PART_VALUE ? "answer value" : register_name(part - POMURICA_PART_BLOCK);
 }
 
-static void tell_acceptance(FILE *out, const uint8_t *trace, uint32_t steps)
+static void tell_acceptance(FILE *out, uint32_t steps, uint32_t done)
 {
-    const uint32_t done = count_done(trace, steps);
-
     fprintf(out, "accepted, %" PRIu32 " Steps", steps);
     if (steps > 0)
         fprintf(out, ": %" PRIu32 " done, %" PRIu32 " refused", done, steps - done);
 }
 
-void tell_verdict(FILE *out, const uint8_t *trace, const uint8_t *report)
+void tell_verdict(FILE *out, const uint8_t *report, uint32_t done)
 {
     const uint32_t number = pomurica_get_word(report, POMURICA_REPORT_NUMBER);
     const uint32_t place = pomurica_get_word(report, POMURICA_REPORT_PLACE);
     const uint32_t steps = pomurica_get_word(report, POMURICA_REPORT_STEPS);
 
     if (number == POMURICA_DONE)
-        tell_acceptance(out, trace, steps);
+        tell_acceptance(out, steps, done);
     else
         fprintf(out, "refused %" PRIu32 " %s at byte %" PRIu32 " after %" PRIu32 " Steps", number,
                 pomurica_number_name(number), place, steps);
 }
 
-const char *warning_of(const uint8_t *trace, const uint8_t *report)
+const char *warning_of(const uint8_t *report, uint32_t done)
 {
     const bool accepted = pomurica_get_word(report, POMURICA_REPORT_NUMBER) == POMURICA_DONE;
 
-    if (!accepted || count_done(trace, pomurica_get_word(report, POMURICA_REPORT_STEPS)) > 0)
+    if (!accepted || done > 0)
         return NULL;
     return "warning: no Step was done, so the trace shows nothing of what the unit runs";
 }

@@ -22,13 +22,13 @@ const char *banked_name(uint32_t a);
 /* A part of a Step: enum pomurica_part, but not POMURICA_PART_NONE. */
 const char *part_name(uint32_t part);
 
-/* Both take the first three words of a report or an explanation. */
+/* Both take the first three words of a report or an explanation, and how many Steps of an accepted trace were done. */
 
 /* The verdict: "accepted, 9 Steps: 8 done, 1 refused". */
-void tell_verdict(FILE *out, const uint8_t *trace, const uint8_t *report);
+void tell_verdict(FILE *out, const uint8_t *report, uint32_t done);
 
 /* The warning that goes with an accepted trace in which no Step was done; NULL for any other. */
-const char *warning_of(const uint8_t *trace, const uint8_t *report);
+const char *warning_of(const uint8_t *report, uint32_t done);
 
 /* The event of a Step: "interrupt check, lines IRQ"; with what is wrong with it: "interrupt check, A 33, above 31". */
 void tell_event(FILE *out, const uint8_t *step);

@@ -8,7 +8,7 @@
  * A trace is what a unit records of its steps; the checker accepts it exactly
  * when the rules can have made it.
  *
- * The six functions are proved: for every input they return, give the one
+ * The nine functions are proved: for every input they return, give the one
  * answer that the rules give, and write nothing but what is said here.  They
  * keep nothing between calls, take no memory and may be called from several
  * threads, each with buffers of its own.  A buffer of bytes may lie at any
@@ -16,15 +16,16 @@
  *
  * The archive libconsole.a is x86-64 code for Linux: ELF, the System V calling
  * convention, position independent, for any x86-64 processor.  It defines the
- * six functions and no other name, calls nothing but the C library's memcpy
+ * nine functions and no other name, calls nothing but the C library's memcpy
  * and memset, and stands behind the objects that use it:
  *
  *     cc -I host program.c libconsole.a
  *
  * Outside the proof, and so up to the caller:
  *   - a pointer and its length name memory that is there.  A length of 0 goes
- *     with any pointer, NULL among them; NULL with a length above 0 does not;
- *   - the buffers of one call do not overlap, and nobody else writes them
+ *     with any pointer, NULL among them; NULL with a length above 0 does not.
+ *     A pointer to a session, which has no length, is never NULL;
+ *   - the buffers of one call, a session among them, do not overlap, and nobody else writes them
  *     while the call runs;
  *   - the small inline functions of this header, which are plain C.
  */
@@ -48,7 +49,8 @@ enum {
     POMURICA_LINES_SIZE = 2048, /* room that is enough for the lines of any counts */
     POMURICA_START_SIZE = 184,
     POMURICA_STEP_SIZE = 200,
-    POMURICA_END_SIZE = 8
+    POMURICA_END_SIZE = 8,
+    POMURICA_RECORD_SIZE = POMURICA_STEP_SIZE /* room for any record */
 };
 
 /*
@@ -88,9 +90,11 @@ enum pomurica_record_word {
     (POMURICA_START_SIZE + POMURICA_MOST_STEPS * POMURICA_STEP_SIZE + POMURICA_END_SIZE)
 
 /*
- * Answer numbers: 0 to 7 of a step; 0, 1 and 8 to 12 of the checker and of an
- * explanation, and with 13 of a count; 0, 1 and 15 of the lines of counts;
- * 0 and 1 of a batch.
+ * Answer numbers: 0 to 7 of a step; 0, 1 and 8 to 12 of the checker, of an
+ * explanation and of a closing, and with 13 of a count; 0, 9 to 12 and 14 of a
+ * feeding; 0, 1 and 15 of the lines of counts; 0 and 1 of a batch; 0 of an
+ * opening.  (Of a session that was opened: in another one any number may stand
+ * as its fault.)
  */
 enum pomurica_number {
     POMURICA_DONE = 0,        /* the step was done; the trace is accepted */
@@ -107,6 +111,7 @@ enum pomurica_number {
     POMURICA_WRONG_STEP = 11, /* not what the rules give from the block before */
     POMURICA_TRAILING = 12,   /* bytes behind the End */
     POMURICA_FULL = 13,       /* counting: a count would pass 4,294,967,295; nothing was counted */
+    POMURICA_CLOSED = 14,     /* feeding: the session was closed before; nothing was changed */
     POMURICA_NO_ROOM = 15     /* the room is too small for what is to be written; nothing was written */
 };
 
@@ -333,6 +338,69 @@ uint32_t pomurica_batch(const struct pomurica_event *events, size_t events_len,
 uint32_t pomurica_check(const uint8_t *trace, size_t trace_len,
                         uint8_t *report, size_t report_len);
 
+/*
+ * The checker for a trace that arrives in pieces: open a session, feed it the
+ * bytes as they come, in runs of any length, and close it.  However the bytes
+ * were cut, closing gives what pomurica_check gives for all of them together.
+ *
+ *     struct pomurica_session session;
+ *
+ *     pomurica_open(&session);
+ *     while ((got = read(line, run, sizeof run)) > 0)
+ *         pomurica_feed(&session, run, (size_t)got);
+ *     if (got == 0)
+ *         number = pomurica_close(&session, report, sizeof report);
+ *
+ * A session is the caller's: it lies at an address aligned as its struct is, may
+ * be copied, and needs nothing when it is done with.  Its words are the
+ * functions' own.  One that nobody opened gets answers too, which say nothing of
+ * a trace.
+ */
+enum pomurica_stage {
+    POMURICA_STAGE_START = 0, /* the Start is due */
+    POMURICA_STAGE_NEXT = 1,  /* a Step is due, or behind the last one the End */
+    POMURICA_STAGE_OVER = 2   /* the End has come */
+};
+
+struct pomurica_session {
+    uint32_t stage;  /* enum pomurica_stage */
+    uint32_t count;  /* n, the Steps that the Start counts */
+    uint32_t steps;  /* Steps found right */
+    uint32_t place;  /* the first byte of the record due, or at fault, counted from the first byte fed */
+    uint32_t held;   /* how many bytes of the record due are kept */
+    uint32_t fault;  /* the number of the fault that is known, or 0 */
+    uint32_t closed; /* 0 while it is open */
+    uint8_t block[POMURICA_BLOCK_SIZE];       /* the last block; 0 before the Start, and with a fault */
+    uint8_t unfinished[POMURICA_RECORD_SIZE]; /* the bytes that are kept, 0 behind them */
+};
+
+/* Begins a trace, whatever the session held.  Returns 0. */
+uint32_t pomurica_open(struct pomurica_session *session);
+
+/*
+ * The next bytes of the trace: any, and any number of them, 0 too.
+ *
+ * Returns 0 until a fault is known, and from then on the fault's number, which
+ * no more bytes change: POMURICA_BAD_RECORD is known with a record's fourth
+ * byte, POMURICA_BAD_COUNT and POMURICA_WRONG_STEP with its last one, and
+ * POMURICA_TRAILING with the first byte behind the End.  POMURICA_SHORT is
+ * known only at closing.  After closing it returns POMURICA_CLOSED, and nothing
+ * has changed.
+ */
+uint32_t pomurica_feed(struct pomurica_session *session,
+                       const uint8_t *bytes, size_t bytes_len);
+
+/*
+ * The end of the trace: the number, the place and the Steps of all bytes that
+ * were fed, as pomurica_check has them, into a report of 12 bytes.
+ *
+ * Returns the number.  The session is closed, and closing it again gives the
+ * same.  POMURICA_BAD_SIZE, if report_len is not 12: then nothing has changed,
+ * and the session is as open as it was.
+ */
+uint32_t pomurica_close(struct pomurica_session *session,
+                        uint8_t *report, size_t report_len);
+
 /* The parts of a Step that the rules decide: its answer's number and value, and the block after, place by place. */
 enum pomurica_part {
     POMURICA_PART_NONE = 0,
@@ -444,6 +512,7 @@ static inline const char *pomurica_number_name(uint32_t number)
     case POMURICA_WRONG_STEP: return "WRONG_STEP";
     case POMURICA_TRAILING: return "TRAILING";
     case POMURICA_FULL: return "FULL";
+    case POMURICA_CLOSED: return "CLOSED";
     case POMURICA_NO_ROOM: return "NO_ROOM";
     default: return "UNKNOWN";
     }

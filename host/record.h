@@ -28,16 +28,6 @@ static inline const uint8_t *block_after(const uint8_t *step)
     return step + 4 * POMURICA_STEP_BLOCK;
 }
 
-/* How many of the first Steps of a trace were done, as their records have it; the others were refused. */
-static inline uint32_t count_done(const uint8_t *trace, uint32_t steps)
-{
-    uint32_t done = 0;
-
-    for (uint32_t index = 0; index < steps; index++)
-        done += pomurica_get_word(trace + step_place(index), POMURICA_STEP_NUMBER) == POMURICA_DONE;
-    return done;
-}
-
 /* What came of an event. */
 enum outcome {
     OUTCOME_REFUSED, OUTCOME_READ, OUTCOME_WRITTEN, OUTCOME_NOTHING_TAKEN, OUTCOME_ENTRY

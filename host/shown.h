@@ -15,6 +15,7 @@ enum { MOST_SINGLE = 2000 };
 struct shown {
     const uint8_t *trace, *explanation;
     uint32_t right;       /* so many were found right */
+    uint32_t done;        /* so many of these were done */
     uint32_t judged;      /* the same and the wrong one, if there is one */
     uint32_t recorded;    /* the same and those behind the wrong one, which nobody judged */
     uint32_t first, last; /* those that are listed */

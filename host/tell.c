@@ -1,6 +1,7 @@
 /* A trace in words for a person: see tell.h. */
 #include "tell.h"
 
+#include "done.h"
 #include "phrases.h"
 #include "pomurica.h"
 #include "record.h"
@@ -84,7 +85,8 @@ static void tell_bad_count(FILE *out, const uint8_t *trace, uint32_t place)
 
 static void tell_warning(FILE *out, const uint8_t *trace, const uint8_t *explanation)
 {
-    const char *const warning = warning_of(trace, explanation);
+    const uint32_t steps = pomurica_get_word(explanation, POMURICA_EXPLANATION_STEPS);
+    const char *const warning = warning_of(explanation, count_done(trace, steps));
 
     if (warning != NULL)
         fprintf(out, "  %s\n", warning);

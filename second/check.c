@@ -2,24 +2,11 @@
  * The checker of traces: walks the records once, in order, and runs the step
  * on the block before each Step.
  */
+#include "records.h"
 #include "second.h"
 #include "words.h"
 
-#include <stdbool.h>
 #include <string.h>
-
-/* The trace: "n at most 65,535". */
-#define MOST_STEPS 65535
-
-/* The trace: a record's length and kind. */
-struct record {
-    uint32_t length, kind;
-};
-
-/* The trace: the three records. */
-static const struct record START = { 184, 1 };
-static const struct record STEP = { 200, 2 };
-static const struct record END = { 8, 3 };
 
 /* The trace: what the checker answers. */
 struct report {
@@ -28,20 +15,26 @@ struct report {
     uint32_t steps;
 };
 
+/* The trace: "two-byte length of the whole record, two-byte kind". */
+bool second_is_due(const uint8_t *header, struct record due)
+{
+    return get_half(header) == due.length && get_half(header + 2) == due.kind;
+}
+
 /* The trace: whether the record due lies whole in the bytes left; else 8 or 9. */
 static enum number find_record(const uint8_t *bytes, size_t left, struct record due)
 {
     if (left < HEADER_SIZE)
         return SHORT;
-    if (get_half(bytes) != due.length || get_half(bytes + 2) != due.kind)
+    if (!second_is_due(bytes, due))
         return BAD_RECORD;
     if (left < due.length)
         return SHORT;
     return DONE;
 }
 
-/* The trace: whether a Step is "what the rules give from the block before"; moves the block. */
-static bool is_right_step(const uint8_t *step, uint8_t *block)
+/* The trace: "what the rules give" is the answer, the value and the block after. */
+bool second_is_right_step(const uint8_t *step, uint8_t *block)
 {
     uint8_t answer[ANSWER_SIZE];
 
@@ -73,7 +66,7 @@ static struct report judge(const uint8_t *trace, size_t length)
         const uint8_t *step = trace + report.place;
 
         report.number = find_record(step, length - report.place, STEP);
-        if (report.number == DONE && !is_right_step(step, block))
+        if (report.number == DONE && !second_is_right_step(step, block))
             report.number = WRONG_STEP;
         if (report.number != DONE)
             return report;

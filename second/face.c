@@ -27,6 +27,23 @@ uint32_t pomurica_check(const uint8_t *trace, size_t trace_len,
     return second_check(trace, trace_len, report, report_len);
 }
 
+uint32_t pomurica_open(struct pomurica_session *session)
+{
+    return second_open(session);
+}
+
+uint32_t pomurica_feed(struct pomurica_session *session,
+                       const uint8_t *bytes, size_t bytes_len)
+{
+    return second_feed(session, bytes, bytes_len);
+}
+
+uint32_t pomurica_close(struct pomurica_session *session,
+                        uint8_t *report, size_t report_len)
+{
+    return second_close(session, report, report_len);
+}
+
 /* Where the words of a Step lie: its event, and the parts that the rules decide. */
 enum {
     CODE = 1, A = 2, B = 3, FIRST_PART = 4

@@ -1,9 +1,10 @@
 /*
- * A second implementation of document 01, and of No. 1, No. 2 and No. 5 of
- * document 02, written from the papers alone, to be held against the proved
+ * A second implementation of document 01, and of No. 1, No. 2, No. 5 and No. 6
+ * of document 02, written from the papers alone, to be held against the proved
  * one.  (No. 3 changes no answer, and the table of No. 4 is printed by
  * decisions.py.)  Each function returns the number; none keeps anything between
- * calls.  (NULL, 0) is an empty buffer, and an empty list.
+ * calls but what is in a session.  (NULL, 0) is an empty buffer, an empty list
+ * and an empty run.
  */
 #ifndef SECOND_H
 #define SECOND_H
@@ -26,6 +27,12 @@ uint32_t second_batch(const struct pomurica_event *events, size_t events_len,
 /* The trace: number, place and Steps into a report of 12 bytes; of another size it is BAD_SIZE. */
 uint32_t second_check(const uint8_t *trace, size_t trace_len,
                       uint8_t *report, size_t report_len);
+
+/* No. 6: the same of a trace that arrives in runs of bytes; what lies in a session is said in host/pomurica.h. */
+struct pomurica_session;
+uint32_t second_open(struct pomurica_session *session);
+uint32_t second_feed(struct pomurica_session *session, const uint8_t *bytes, size_t bytes_len);
+uint32_t second_close(struct pomurica_session *session, uint8_t *report, size_t report_len);
 
 /* No. 1: what the Steps of an accepted trace add to counts of 512 bytes; any other number leaves them. */
 uint32_t second_count(const uint8_t *trace, size_t trace_len,

@@ -1,9 +1,9 @@
 /*
  * The worked cases of document 01, "Numbers to hold against it", a to l, and
- * cases of our own for No. 1, No. 2 and No. 5 of document 02: each is run and
- * printed.  Exit status 1 if one differs.
+ * cases of our own for No. 1, No. 2, No. 5 and No. 6 of document 02: each is
+ * run and printed.  Exit status 1 if one differs.
  *
- *     cc -std=c11 -Wall -Wextra -Werror -O2 -I../host step.c batch.c check.c count.c test.c -o test && ./test
+ *     cc -std=c11 -Wall -Wextra -Werror -O2 -I../host step.c batch.c check.c count.c session.c test.c -o test && ./test
  */
 #include "second.h"
 #include "words.h"
@@ -151,14 +151,14 @@ static void run_trace(const char *name, const uint8_t *trace, size_t length,
     tell(right);
 }
 
-/* Numbers to hold against it: l, the shortest trace. */
+/* Numbers to hold against it: l, "The shortest trace, 192 bytes". */
+static const uint8_t SHORTEST[192] = {
+    [0] = 0xB8, 0x00, 0x01, 0x00,
+    [184] = 0x08, 0x00, 0x03, 0x00, 0x00, 0x00, 0x00, 0x00,
+};
+
 static void run_l(void)
 {
-    static const uint8_t SHORTEST[192] = {
-        [0] = 0xB8, 0x00, 0x01, 0x00,
-        [184] = 0x08, 0x00, 0x03, 0x00, 0x00, 0x00, 0x00, 0x00,
-    };
-
     run_trace("l", SHORTEST, 192, DONE, 192, 0);
     run_trace("l, cut", SHORTEST, 191, SHORT, 184, 0);
     run_trace("l, empty", NULL, 0, SHORT, 0, 0);
@@ -468,6 +468,199 @@ static void run_tge(void)
     run_trace("trace after", trace, sizeof trace, DONE, sizeof trace, 1);
 }
 
+/* No. 6: whether a report is "the number, place and Steps" that are due. */
+static bool is_report(const uint8_t *report, uint32_t number, uint32_t place, uint32_t steps)
+{
+    return get_word(report) == number && get_word(report + 4) == place && get_word(report + 8) == steps;
+}
+
+/* No. 6: whether closing gives this number, place and Steps, "closing again" the same, and a feeding between them CLOSED. */
+static bool closes_with(struct pomurica_session *session, uint32_t number, uint32_t place, uint32_t steps)
+{
+    uint8_t report[REPORT_SIZE], again[REPORT_SIZE];
+    struct pomurica_session closed;
+    bool right;
+
+    right = second_close(session, report, sizeof report) == number && is_report(report, number, place, steps);
+    closed = *session;
+    right = right && second_feed(session, NULL, 0) == CLOSED && second_feed(session, SHORTEST, sizeof SHORTEST) == CLOSED;
+    right = right && second_close(session, again, sizeof again) == number && is_report(again, number, place, steps);
+    return right && memcmp(session, &closed, sizeof closed) == 0;
+}
+
+/* No. 6: "However the bytes were cut": l, cut in two in every way, with an empty run before, between and behind. */
+static void run_cuts(void)
+{
+    unsigned cuts = 0;
+
+    for (size_t cut = 0; cut <= sizeof SHORTEST; cut++) {
+        struct pomurica_session session;
+
+        memset(&session, 0xAA, sizeof session);
+        if (second_open(&session) == DONE && second_feed(&session, NULL, 0) == DONE &&
+            second_feed(&session, SHORTEST, cut) == DONE && second_feed(&session, NULL, 0) == DONE &&
+            second_feed(&session, SHORTEST + cut, sizeof SHORTEST - cut) == DONE &&
+            second_feed(&session, NULL, 0) == DONE && closes_with(&session, DONE, 192, 0))
+            cuts++;
+    }
+    printf("%-12s  in %u ways", "l in two", cuts);
+    tell(cuts == sizeof SHORTEST + 1);
+}
+
+/* No. 6: feeds a byte at a time; gives how many came before this fault was known, or SIZE_MAX if it did not stay. */
+static size_t feed_singly(struct pomurica_session *session, const uint8_t *trace, size_t length, uint32_t fault)
+{
+    size_t unknown = 0;
+
+    while (unknown < length && second_feed(session, trace + unknown, 1) == DONE)
+        unknown++;
+    for (size_t i = unknown; i < length; i++) {
+        if (second_feed(session, trace + i, 1) != fault)
+            return SIZE_MAX;
+    }
+    return unknown;
+}
+
+/* No. 6: how many bytes come before a fault is known, all of them where none is; they are fed singly, and in one run. */
+static void run_known(const char *name, const uint8_t *trace, size_t length, size_t unknown,
+                      uint32_t number, uint32_t place, uint32_t steps)
+{
+    const uint32_t fault = unknown == length ? DONE : number;
+    struct pomurica_session singly, at_once;
+    bool right;
+
+    second_open(&singly);
+    second_open(&at_once);
+    right = feed_singly(&singly, trace, length, fault) == unknown && second_feed(&at_once, trace, length) == fault &&
+            memcmp(&singly, &at_once, sizeof singly) == 0;
+    right = right && closes_with(&singly, number, place, steps) && closes_with(&at_once, number, place, steps);
+    printf("%-12s  %u %u %u, behind %u bytes", name, (unsigned)number, (unsigned)place, (unsigned)steps, (unsigned)unknown);
+    tell(right);
+}
+
+/* The trace: where the last Step and the End of COUNTED begin. */
+enum {
+    COUNTED_END = COUNTED_LENGTH - END_LENGTH,
+    COUNTED_LAST = COUNTED_END - STEP_LENGTH
+};
+
+/* No. 6: COUNTED with one byte changed; the fault is known with this byte of the record at this place. */
+static void run_changed(const char *name, size_t changed, uint8_t byte, size_t known,
+                        uint32_t number, uint32_t place, uint32_t steps)
+{
+    uint8_t trace[COUNTED_LENGTH];
+
+    record_counted(trace);
+    trace[changed] = byte;
+    run_known(name, trace, sizeof trace, place + known - 1, number, place, steps);
+}
+
+/* No. 6: "known with a record's fourth byte, TRAILING with its first byte, the others with the record's last". */
+static void run_faults(void)
+{
+    uint8_t trace[2 * COUNTED_LENGTH];
+
+    run_changed("length", 0, 0xB9, 4, BAD_RECORD, 0, 0);
+    run_changed("kind", 3, 1, 4, BAD_RECORD, 0, 0);
+    run_changed("Step's kind", COUNTED_LAST + 2, 3, 4, BAD_RECORD, COUNTED_LAST, COUNTED_STEPS - 1);
+    run_changed("End's length", COUNTED_END, 9, 4, BAD_RECORD, COUNTED_END, COUNTED_STEPS);
+    run_changed("n above", START_COUNT + 2, 1, START_LENGTH, BAD_COUNT, 0, 0);
+    run_changed("End's n", COUNTED_END + END_COUNT, 0, END_LENGTH, BAD_COUNT, COUNTED_END, COUNTED_STEPS);
+    run_changed("wrong value", COUNTED_LAST + STEP_VALUE, 1, STEP_LENGTH, WRONG_STEP, COUNTED_LAST, COUNTED_STEPS - 1);
+    record_counted(trace);
+    record_counted(trace + COUNTED_LENGTH);
+    run_known("once more", trace, sizeof trace, COUNTED_LENGTH, TRAILING, COUNTED_LENGTH, COUNTED_STEPS);
+}
+
+/* No. 6: "SHORT is given only at closing", whatever the part that is there says. */
+static void run_short(void)
+{
+    uint8_t trace[COUNTED_LENGTH];
+
+    record_counted(trace);
+    run_known("whole", trace, sizeof trace, sizeof trace, DONE, COUNTED_LENGTH, COUNTED_STEPS);
+    run_known("no bytes", NULL, 0, 0, SHORT, 0, 0);
+    run_known("no End", trace, COUNTED_END, COUNTED_END, SHORT, COUNTED_END, COUNTED_STEPS);
+    run_known("no last byte", trace, sizeof trace - 1, sizeof trace - 1, SHORT, COUNTED_END, COUNTED_STEPS);
+    trace[COUNTED_LAST + STEP_VALUE] = 1;
+    run_known("cut, wrong", trace, COUNTED_END - 1, COUNTED_END - 1, SHORT, COUNTED_LAST, COUNTED_STEPS - 1);
+    trace[0] = 0;
+    run_known("3 bytes", trace, 3, 3, SHORT, 0, 0);
+}
+
+/* No. 6: so many bytes of COUNTED, and one more 0 behind it, leave a session that is this one. */
+static void run_kept(const char *name, size_t fed, const struct pomurica_session *kept)
+{
+    uint8_t trace[COUNTED_LENGTH + 1] = { 0 };
+    struct pomurica_session session;
+
+    record_counted(trace);
+    second_open(&session);
+    second_feed(&session, trace, fed);
+    printf("%-12s  %u held of the record at %u", name, (unsigned)session.held, (unsigned)session.place);
+    tell(memcmp(&session, kept, sizeof session) == 0);
+}
+
+/* No. 6: "no more than the last block and one unfinished record", and neither once a fault is known. */
+static void run_keeping(void)
+{
+    struct pomurica_session kept = { .stage = STAGE_START, .held = START_LENGTH - 1 };
+    uint8_t trace[COUNTED_LENGTH];
+
+    record_counted(trace);
+    memcpy(kept.unfinished, trace, kept.held);
+    run_kept("in Start", kept.held, &kept);
+
+    kept = (struct pomurica_session){ .stage = STAGE_NEXT, .count = COUNTED_STEPS, .place = START_LENGTH };
+    memcpy(kept.block, trace + START_BLOCK, BLOCK_SIZE);
+    run_kept("Start", START_LENGTH, &kept);
+
+    kept.steps = COUNTED_STEPS - 1;
+    kept.place = COUNTED_LAST;
+    kept.held = HEADER_SIZE;
+    memcpy(kept.block, trace + COUNTED_LAST - BLOCK_SIZE, BLOCK_SIZE);
+    memcpy(kept.unfinished, trace + COUNTED_LAST, HEADER_SIZE);
+    run_kept("in Step", COUNTED_LAST + HEADER_SIZE, &kept);
+
+    kept = (struct pomurica_session){ STAGE_OVER, COUNTED_STEPS, COUNTED_STEPS, COUNTED_LENGTH, 0, DONE, 0, { 0 }, { 0 } };
+    memcpy(kept.block, trace + COUNTED_END - BLOCK_SIZE, BLOCK_SIZE);
+    run_kept("End", COUNTED_LENGTH, &kept);
+
+    kept.fault = TRAILING;
+    memset(kept.block, 0, BLOCK_SIZE);
+    run_kept("one more", COUNTED_LENGTH + 1, &kept);
+}
+
+/* No. 6: a report of another size changes nothing, and the session is as open as it was. */
+static void run_report_sizes(void)
+{
+    static const size_t SIZES[] = { 0, REPORT_SIZE - 1, REPORT_SIZE + 1 };
+    uint8_t report[REPORT_SIZE + 1], before[REPORT_SIZE + 1];
+    struct pomurica_session session, half;
+    bool right = true;
+
+    memset(report, 0xAA, sizeof report);
+    memcpy(before, report, sizeof before);
+    second_open(&session);
+    second_feed(&session, SHORTEST, 100);
+    half = session;
+    for (size_t i = 0; i < sizeof SIZES / sizeof SIZES[0]; i++)
+        right = right && second_close(&session, report, SIZES[i]) == BAD_SIZE;
+    right = right && memcmp(&session, &half, sizeof half) == 0 && memcmp(report, before, sizeof before) == 0;
+    right = right && second_feed(&session, SHORTEST + 100, sizeof SHORTEST - 100) == DONE;
+    printf("%-12s  still open", "report size");
+    tell(right && closes_with(&session, DONE, 192, 0));
+}
+
+static void run_sessions(void)
+{
+    run_cuts();
+    run_faults();
+    run_short();
+    run_keeping();
+    run_report_sizes();
+}
+
 int main(void)
 {
     for (size_t i = 0; i < CASE_COUNT; i++)
@@ -476,6 +669,7 @@ int main(void)
     run_counts();
     run_batches();
     run_tge();
+    run_sessions();
     printf("%u passed, %u failed\n", run - differing, differing);
     return differing == 0 ? 0 : 1;
 }

@@ -1,7 +1,7 @@
 /*
  * The words of document 01: its names for places, modes, events, numbers, bits
- * and the parts of a record, and how a word lies in bytes.  No. 1 is that of
- * document 02.
+ * and the parts of a record, and how a word lies in bytes.  No. 1 and No. 6 are
+ * those of document 02.
  */
 #ifndef WORDS_H
 #define WORDS_H
@@ -109,7 +109,10 @@ enum line_bits {
     LINE_VIRQ = 16
 };
 
-/* Answer numbers: 0 to 7 of a step; 0 and 8 to 12 of the checker (The trace); 13 and 15 of counts (No. 1). */
+/*
+ * Answer numbers: 0 to 7 of a step; 0 and 8 to 12 of the checker (The trace); 13 and 15 of counts (No. 1); 14 of a feeding
+ * (No. 6).
+ */
 enum number {
     DONE = 0,
     BAD_SIZE = 1,
@@ -125,6 +128,7 @@ enum number {
     WRONG_STEP = 11,
     TRAILING = 12,
     FULL = 13,
+    CLOSED = 14,
     NO_ROOM = 15
 };
 
@@ -149,6 +153,13 @@ enum part {
     STEP_VALUE = 20,
     STEP_BLOCK = 24,
     END_COUNT = 4
+};
+
+/* No. 6: how far the records of a session have come. */
+enum stage {
+    STAGE_START = 0, /* the Start is due */
+    STAGE_NEXT = 1,  /* a Step is due, or the End */
+    STAGE_OVER = 2   /* nothing is due */
 };
 
 /* The trace: two bytes, little-endian. */

@@ -66,7 +66,10 @@ def try_input():
     write('empty', b'')
     expect_run('an empty file', ['empty'], 1, b'empty: refused 8 SHORT at byte 0 after 0 Steps\n')
     expect_run('a directory', ['.'], 2, b'', b'console: .: Is a directory\n')
-    expect_run('a device without end', ['/dev/zero'], 1, b'/dev/zero: refused 9 BAD_RECORD at byte 0 after 0 Steps\n')
+    expect_run('an empty device', ['/dev/null'], 1, b'/dev/null: refused 8 SHORT at byte 0 after 0 Steps\n')
+    expect_run('a device without end, into which --explain looks', ['--explain', '/dev/zero'], 1,
+               b'/dev/zero: refused 9 BAD_RECORD at byte 0 after 0 Steps\n'
+               b'  the Start was due, of length 184 and kind 1; length 0 and kind 0 are there\n')
     expect_run('a file that fails while it is read', ['/proc/self/mem'], 2, b'', b'console: /proc/self/mem: ')
     with open(write('huge', SHORTEST), 'r+b') as file:
         file.truncate(400 << 20)
@@ -90,7 +93,10 @@ def try_output():
 def try_memory():
     def limit():
         resource.setrlimit(resource.RLIMIT_AS, (12 << 20, 12 << 20))
-    expect_run('no memory', ['good'], 2, b'', b'console: no memory', preexec_fn=limit)
+    expect_run('no memory for a whole trace', ['--explain', 'good'], 2, b'', b'console: no memory for 13107193 bytes\n',
+               preexec_fn=limit)
+    expect_run('and none is needed for one that is judged', ['huge'], 1,
+               b'huge: refused 12 TRAILING at byte %d after 0 Steps\n' % len(SHORTEST), preexec_fn=limit)
 
 
 def try_leaks():

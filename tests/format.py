@@ -51,7 +51,7 @@ def judge(console, trace):
 
 def constants():
     """The header's names with their numbers."""
-    simple = re.findall(r"POMURICA_(\w+) = (\w+)", HEADER)
+    simple = re.findall(r"POMURICA_(\w+) = (0x\w+|\d+)", HEADER)
     shifted = re.findall(r"#define POMURICA_(\w+) \(UINT32_C\((\d+)\) << (\d+)\)", HEADER)
     found = {name: int(number, 0) for name, number in simple}
     found.update({name: int(bits) << int(shift) for name, bits, shift in shifted})

@@ -4,6 +4,7 @@
 
 #include "markup.h"
 
+#include "../host/arrival.h"
 #include "../host/page.h"
 #include "../host/phrases.h"
 #include "../host/record.h"
@@ -67,6 +68,42 @@ static void check_report(struct judged *judged)
          "the number is one of the checker's");
     hold(judged->place <= judged->length && judged->steps <= POMURICA_MOST_STEPS, "place and Steps are within the trace");
     hold(is_at_a_record(judged), "the place is that of a record");
+}
+
+/* The Steps that were found right and done, by their records. */
+static uint32_t done_steps(const struct judged *judged)
+{
+    uint32_t done = 0;
+
+    for (uint32_t index = 0; index < judged->steps; index++)
+        done += pomurica_get_word(judged->trace + step_place(index), POMURICA_STEP_NUMBER) == POMURICA_DONE;
+    return done;
+}
+
+/* The same bytes as they arrive: in pieces as long as the first byte of each says, which come to the same verdict. */
+static void check_arrival(const struct judged *judged)
+{
+    uint8_t report[POMURICA_REPORT_SIZE];
+    struct arrival arrival;
+    size_t from = 0;
+    uint32_t told = 0;
+
+    begin_arrival(&arrival);
+    while (from < judged->length) {
+        const size_t left = judged->length - from, any = (size_t)judged->trace[from] + 1;
+        const size_t size = any < left ? any : left;
+
+        told += take_piece(&arrival, judged->trace + from, size);
+        from += size;
+    }
+    pomurica_close(&arrival.session, report, sizeof report);
+    hold(memcmp(report, judged->report, sizeof report) == 0, "a trace comes to the same report in pieces");
+    hold(told == (arrival.fault != POMURICA_DONE), "a fault that is known is told once");
+    hold(arrival.fault == (judged->number == POMURICA_SHORT ? POMURICA_DONE : judged->number),
+         "every fault but SHORT is known before the end");
+    hold(arrival.taken <= judged->length && (told != 0 || arrival.taken == judged->length),
+         "a fault is known within the trace");
+    hold(judged->number != POMURICA_DONE || arrival.done.steps == done_steps(judged), "the done Steps are counted");
 }
 
 static uint32_t word_found(const uint8_t *step, uint32_t part)
@@ -177,7 +214,7 @@ static void check_verdict(const struct judged *judged, const char *page)
 
     open_text(&text);
     fputs(": ", text.out);
-    tell_verdict(text.out, judged->trace, judged->report);
+    tell_verdict(text.out, judged->report, done_steps(judged));
     fputc('<', text.out);
     close_text(&text);
     hold(strstr(page, text.bytes) != NULL, "the page has the verdict");
@@ -281,6 +318,7 @@ int LLVMFuzzerTestOneInput(const uint8_t *data, size_t size)
     judged.name = name;
     judged.trace = trace;
     check_report(&judged);
+    check_arrival(&judged);
     check_explanation(&judged);
     check_steps(&judged);
     check_page(&judged);

@@ -34,12 +34,21 @@ SAME(4 * POMURICA_STEP_NUMBER, STEP_ANSWER);
 SAME(4 * POMURICA_STEP_VALUE, STEP_VALUE);
 SAME(4 * POMURICA_STEP_BLOCK, STEP_BLOCK);
 
-/* The structs of a batch are their words, without a gap. */
+/* The structs of a batch, and a session, are their words and bytes, without a gap. */
 SAME(sizeof(struct pomurica_event), 3 * sizeof(uint32_t));
 SAME(sizeof(struct pomurica_answer), ANSWER_SIZE);
+SAME(sizeof(struct pomurica_session), 7 * sizeof(uint32_t) + BLOCK_SIZE + POMURICA_RECORD_SIZE);
+
+/* A session has room for the largest record. */
+SAME(POMURICA_RECORD_SIZE, POMURICA_STEP_SIZE);
+
+SAME(POMURICA_STAGE_START, STAGE_START);
+SAME(POMURICA_STAGE_NEXT, STAGE_NEXT);
+SAME(POMURICA_STAGE_OVER, STAGE_OVER);
 
 SAME(POMURICA_COUNTS_SIZE, 4 * POMURICA_GROUPS * POMURICA_GROUP_SIZE);
 SAME(POMURICA_FULL, FULL);
+SAME(POMURICA_CLOSED, CLOSED);
 SAME(POMURICA_NO_ROOM, NO_ROOM);
 
 SAME(POMURICA_REPORT_SIZE, 4 * (POMURICA_REPORT_STEPS + 1));

@@ -2,9 +2,9 @@
  * A mutant of the second implementation against the second implementation, on
  * the questions and traces that the comparisons use, up to the first
  * difference: so many steps, so many lists of events, so many traces to judge,
- * and so many to count.
+ * so many to count, and so many sessions.
  *
- *     hunt STEPS LISTS TRACES COUNTED SEED
+ *     hunt STEPS LISTS TRACES COUNTED SESSIONS SEED
  *
  * Status 0: no difference was found; 3: one was.  A mutant that does not come
  * to an end, or does what no step may, is ended by a signal.
@@ -12,6 +12,7 @@
 #define _POSIX_C_SOURCE 200809L
 
 #include "any_list.h"
+#include "any_session.h"
 #include "counting.h"
 #include "edge.h"
 #include "question.h"
@@ -26,6 +27,9 @@
 #include <unistd.h>
 
 typedef uint32_t check_function(const uint8_t *, size_t, uint8_t *, size_t);
+typedef uint32_t open_function(struct pomurica_session *);
+typedef uint32_t feed_function(struct pomurica_session *, const uint8_t *, size_t);
+typedef uint32_t close_function(struct pomurica_session *, uint8_t *, size_t);
 
 /* The mutant: compiled from a changed copy under these names. */
 step_function mutant_step;
@@ -33,6 +37,9 @@ batch_function mutant_batch;
 check_function mutant_check;
 count_function mutant_count;
 lines_function mutant_count_lines;
+open_function mutant_open;
+feed_function mutant_feed;
+close_function mutant_close;
 
 enum {
     FOUND = 3,
@@ -40,6 +47,7 @@ enum {
     A_FEW_STEPS = 4096,
     A_FEW_LISTS = 64,
     A_FEW_TRACES = 64,
+    A_FEW_SESSIONS = 64,
     MOST_STEPS = 65535,
     LONGEST = START_SIZE + MOST_STEPS * STEP_SIZE + END_SIZE
 };
@@ -180,23 +188,121 @@ static bool does_counting_differ(struct chance *chance, unsigned long traces)
     return false;
 }
 
+/* A session, with room on both sides of it that no call may touch. */
+struct guarded {
+    uint8_t before[GUARD_SIZE];
+    struct pomurica_session session;
+    uint8_t behind[GUARD_SIZE];
+};
+
+/* One session on both sides. */
+struct both {
+    struct guarded ours, theirs;
+};
+
+static bool are_sessions_same(const struct both *both)
+{
+    return memcmp(&both->ours, &both->theirs, sizeof both->ours) == 0;
+}
+
+/* Both sides have such a session, and zeros around it. */
+static void begin_both(struct both *both, const struct pomurica_session *session)
+{
+    memset(both, 0, sizeof *both);
+    both->ours.session = both->theirs.session = *session;
+}
+
+static bool do_openings_differ(struct both *both)
+{
+    return second_open(&both->ours.session) != mutant_open(&both->theirs.session) || !are_sessions_same(both);
+}
+
+/* No bytes are lent as no buffer. */
+static bool do_feedings_differ(struct both *both, const uint8_t *bytes, size_t length)
+{
+    const uint8_t *run = length == 0 ? NULL : lend_at_edge(bytes, length);
+
+    return second_feed(&both->ours.session, run, length) != mutant_feed(&both->theirs.session, run, length) ||
+           !are_sessions_same(both);
+}
+
+/* A report that is now and then of another size. */
+static bool do_closings_differ(struct chance *chance, struct both *both)
+{
+    const size_t report_len = one_in(chance, 8) ? any_below(chance, 2 * REPORT_SIZE) : REPORT_SIZE;
+    uint8_t ours[2 * REPORT_SIZE], theirs[2 * REPORT_SIZE];
+
+    any_bytes(chance, ours, sizeof ours);
+    memcpy(theirs, ours, sizeof theirs);
+    return second_close(&both->ours.session, ours, report_len) != mutant_close(&both->theirs.session, theirs, report_len) ||
+           !are_sessions_same(both) || memcmp(ours, theirs, sizeof ours) != 0;
+}
+
+/* The trace from this byte on, in runs, with now and then a closing among them. */
+static bool do_runs_differ(struct chance *chance, struct both *both, const uint8_t *trace, size_t at, size_t length)
+{
+    while (at < length) {
+        const size_t cut = any_cut(chance, at, length);
+
+        if (do_feedings_differ(both, trace + at, cut - at))
+            return true;
+        if (one_in(chance, 64) && do_closings_differ(chance, both))
+            return true;
+        at = cut;
+    }
+    return false;
+}
+
+/* Closed, fed once more, and closed again. */
+static bool do_ends_differ(struct chance *chance, struct both *both, const uint8_t *trace)
+{
+    return do_closings_differ(chance, both) || do_feedings_differ(both, trace, any_below(chance, 2)) ||
+           do_closings_differ(chance, both);
+}
+
+static bool do_sessions_differ(struct chance *chance, unsigned long sessions)
+{
+    static uint8_t trace[MADE_SIZE];
+    static struct both both;
+    struct pomurica_session session;
+
+    for (unsigned long i = 0; i < sessions; i++) {
+        const size_t length = any_arriving(chance, (enum damage)(i % DAMAGES), trace);
+        size_t at = any_session(chance, trace, length, &session);
+
+        if (i % A_FEW_SESSIONS == 0)
+            alarm(PATIENCE);
+        spoil_session(chance, &session);
+        begin_both(&both, &session);
+        if (one_in(chance, 2)) {
+            if (do_openings_differ(&both))
+                return true;
+            at = 0;
+        }
+        if (do_runs_differ(chance, &both, trace, at, length) || do_ends_differ(chance, &both, trace))
+            return true;
+    }
+    return false;
+}
+
 int main(int argc, char **argv)
 {
     struct chance chance;
-    unsigned long steps, lists, traces, counted;
+    unsigned long steps, lists, traces, counted, sessions;
 
-    if (argc != 6) {
-        fprintf(stderr, "usage: hunt STEPS LISTS TRACES COUNTED SEED\n");
+    if (argc != 7) {
+        fprintf(stderr, "usage: hunt STEPS LISTS TRACES COUNTED SESSIONS SEED\n");
         return 2;
     }
     steps = strtoul(argv[1], NULL, 10);
     lists = strtoul(argv[2], NULL, 10);
     traces = strtoul(argv[3], NULL, 10);
     counted = strtoul(argv[4], NULL, 10);
-    chance.seed = strtoull(argv[5], NULL, 10);
+    sessions = strtoul(argv[5], NULL, 10);
+    chance.seed = strtoull(argv[6], NULL, 10);
     open_edge(LONGEST);
     if (do_steps_differ(&chance, steps) || do_lists_differ(&chance, lists) || do_traces_differ(&chance, traces) ||
-        does_counting_differ(&chance, counted))
+        does_counting_differ(&chance, counted) || do_sessions_differ(&chance, sessions))
         return FOUND;
     return traces != 0 && does_longest_differ(&chance) ? FOUND : 0;
 }

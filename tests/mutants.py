@@ -9,6 +9,7 @@ SCRIPT = os.path.abspath(sys.argv[1])
 # B 1 allowed for each of codes 1 to 10; a mask not set, a refusal gone, a condition turned round, a label gone; a wrong count.
 # Of the batch: an answer too many, more events than answers, an event left out.
 # Of the counts: a code too few, refused Steps counted as done, a sum that just fits, room that just does.
+# Of a session: the most Steps refused, a byte too many held, a head judged too often, a block kept, a feeding after closing.
 KILLED = [
     *(f'LARGEST: [CODE_{code}] = {{ {a}, [[0 => 1]] }},' for code, a in [
         ('UNDEFINED', 0), ('SVC', 0), ('SMC', 0), ('HVC', 0), ('PREFETCH_ABORT', 3), ('DATA_ABORT', 3), ('HYP_TRAP', 0),
@@ -26,6 +27,11 @@ KILLED = [
     'count_step: [[return => ]];',
     'would_pass: if (more->word[i] [[> => >=]] UINT32_MAX - before->word[i])',
     'second_count_lines: if (lines_len [[< => <=]] text.length)',
+    'take_start: if (n [[> => >=]] MOST_STEPS)',
+    'take_byte: if (session->held [[>= => >]] due.length)',
+    'take_byte: if (session->held [[== => >=]] HEADER_SIZE && !second_is_due(session->unfinished, due))',
+    'keep_fault: [[memset(session->block, 0, sizeof session->block) => ]];',
+    'second_feed: [[return CLOSED => ]];',
 ]
 LIVING = 'LARGEST: [[[CODE_SVC => CODE_SMC]]] = { 0, 0 },'
 NO_MUTANT = 'is_one: return [[nothing => something]];'

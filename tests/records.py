@@ -10,6 +10,7 @@ START_KIND, STEP_KIND, END_KIND = 1, 2, 3
 START_BLOCK, STEP_BLOCK = 8, 24  # where the block begins in a Start and in a Step
 STEP_EVENT, STEP_NUMBER = 4, 16  # where a Step has its event, and its answer's number
 START_SIZE, STEP_SIZE, END_SIZE = START_BLOCK + BLOCK_SIZE, STEP_BLOCK + BLOCK_SIZE, 8
+LONGEST = 65535  # Steps
 NOTE = 12
 
 

@@ -77,12 +77,12 @@ size_t record_checks(struct chance *chance, uint32_t n, uint8_t *trace)
     return record_events(chance, any_check, n, trace);
 }
 
-/* Records by number: 0 is Start, 1 to n the Steps, n + 1 End. */
-static uint32_t place_of(uint32_t record)
+uint32_t record_place(uint32_t record)
 {
     return record == 0 ? 0 : START_SIZE + (record - 1) * STEP_SIZE;
 }
 
+/* Records by number: 0 is Start, 1 to n the Steps, n + 1 End. */
 static uint32_t size_of(const struct made *made, uint32_t record)
 {
     return record == 0 ? START_SIZE : record <= made->n ? STEP_SIZE : END_SIZE;
@@ -91,7 +91,7 @@ static uint32_t size_of(const struct made *made, uint32_t record)
 /* The record is at fault: every Step before it is right. */
 static struct expected refused_at(uint32_t number, uint32_t record)
 {
-    return (struct expected){ true, number, place_of(record), record == 0 ? 0 : record - 1 };
+    return (struct expected){ true, number, record_place(record), record == 0 ? 0 : record - 1 };
 }
 
 static const struct expected UNKNOWN = { false, 0, 0, 0 };
@@ -110,7 +110,7 @@ static struct expected cut(struct chance *chance, struct made *made)
     case 3: kept = HEAD_SIZE + any_below(chance, size - HEAD_SIZE); break;
     default: kept = size - 1; break;
     }
-    made->length = place_of(record) + kept;
+    made->length = record_place(record) + kept;
     return refused_at(SHORT, record);
 }
 
@@ -135,7 +135,7 @@ static struct expected change_outcome(struct chance *chance, struct made *made)
     const uint32_t words = (STEP_SIZE - ANSWER_AT) / 4;
     const uint32_t step = 1 + any_below(chance, made->n);
 
-    change_word(chance, made->bytes + place_of(step) + ANSWER_AT + 4 * any_below(chance, words));
+    change_word(chance, made->bytes + record_place(step) + ANSWER_AT + 4 * any_below(chance, words));
     return refused_at(WRONG_STEP, step);
 }
 
@@ -146,7 +146,7 @@ static struct expected change_other(struct chance *chance, struct made *made)
     const uint32_t size = record > 0 && record <= made->n ? ANSWER_AT : size_of(made, record);
     const uint32_t words = (size - HEAD_SIZE) / 4;
 
-    change_word(chance, made->bytes + place_of(record) + HEAD_SIZE + 4 * any_below(chance, words));
+    change_word(chance, made->bytes + record_place(record) + HEAD_SIZE + 4 * any_below(chance, words));
     return UNKNOWN;
 }
 
@@ -183,7 +183,7 @@ static struct expected change_head(struct chance *chance, struct made *made)
 {
     static const uint32_t LENGTHS[] = { START_SIZE, STEP_SIZE, END_SIZE };
     const uint32_t record = any_below(chance, made->n + 2);
-    uint8_t *head = made->bytes + place_of(record);
+    uint8_t *head = made->bytes + record_place(record);
     const uint32_t due = get_word(head);
     const uint32_t other = any_below(chance, 3);
 
@@ -192,7 +192,7 @@ static struct expected change_head(struct chance *chance, struct made *made)
     if (get_word(head) == due)
         change_word(chance, head);
     if (one_in(chance, 4))
-        made->length = place_of(record) + HEAD_SIZE + any_below(chance, size_of(made, record) - HEAD_SIZE);
+        made->length = record_place(record) + HEAD_SIZE + any_below(chance, size_of(made, record) - HEAD_SIZE);
     return refused_at(BAD_RECORD, record);
 }
 

@@ -16,6 +16,9 @@ enum {
     HEAD_SIZE = 4, START_SIZE = 184, STEP_SIZE = 200, END_SIZE = 8
 };
 
+/* Where a record of an honest trace begins: 0 is the Start, then the Steps, then the End. */
+uint32_t record_place(uint32_t record);
+
 /* What is done to an honest trace. */
 enum damage {
     HONEST,

@@ -1,6 +1,6 @@
 /*
- * A step, a batch, a checker and a count that are always wrong, to see what a
- * comparison says of them.
+ * A step, a batch, a checker, a count and a session that are always wrong, to
+ * see what a comparison says of them.
  */
 #include "pomurica.h"
 
@@ -45,5 +45,23 @@ uint32_t wrong_lines(const uint8_t *counts, size_t counts_len,
                      uint8_t *answer, size_t answer_len)
 {
     (void)counts, (void)counts_len, (void)lines, (void)lines_len, (void)answer, (void)answer_len;
+    return NO_NUMBER;
+}
+
+uint32_t wrong_open(struct pomurica_session *session)
+{
+    (void)session;
+    return NO_NUMBER;
+}
+
+uint32_t wrong_feed(struct pomurica_session *session, const uint8_t *bytes, size_t bytes_len)
+{
+    (void)session, (void)bytes, (void)bytes_len;
+    return NO_NUMBER;
+}
+
+uint32_t wrong_close(struct pomurica_session *session, uint8_t *report, size_t report_len)
+{
+    (void)session, (void)report, (void)report_len;
     return NO_NUMBER;
 }

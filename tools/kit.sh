@@ -28,11 +28,12 @@ verdict=$root/target/bin/verdict
 decisions=$root/target/bin/decisions
 built=$root/target/host
 
-# The console program, which both ./console and ./test build; of its files, those of the page, and those that find words and
-# pictures for a trace.
+# The console program, which both ./console and ./test build; of its files, those of the page, those that find words and
+# pictures for a trace, and those that read files.
 page_sources='host/page.c host/timeline.c host/picture.c host/columns.c host/listing.c host/count.c'
-telling_sources="host/tell.c $page_sources host/name.c host/status.c host/phrases.c"
-console_sources="host/console.c host/judge.c host/totals.c host/input.c host/complain.c $telling_sources"
+telling_sources="host/tell.c $page_sources host/name.c host/status.c host/phrases.c host/done.c"
+reading_sources='host/totals.c host/input.c host/line.c'
+console_sources="host/console.c host/judge.c host/arrival.c $reading_sources host/progress.c host/complain.c $telling_sources"
 
 emulator=
 [ ! -x "$tools/bin/qemu-x86_64" ] || emulator=$tools/bin/qemu-x86_64

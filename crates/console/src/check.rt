@@ -4,11 +4,12 @@ ghost use mathlib.Core.Logic.{_↔_};
 ghost use lib.ListN.{length};
 ghost use Rattle.trace.specs.Layout.{layout01};
 ghost use Rattle.trace.specs.Published.{Published};
-ghost use Rattle.console.specs.Check.{reportSize, checkReturns, checkLeaves};
+ghost use Rattle.console.specs.Check.{reportSize, reportBytes, checkReturns, checkLeaves};
 use state::number;
+use trace::check::Report;
 use words::put_word;
 
-const REPORT_SIZE: usize = 12;
+pub(crate) const REPORT_SIZE: usize = 12;
 
 // Where the three words of a report stand.
 const NUMBER: usize = 0;
@@ -16,6 +17,16 @@ const NUMBER: usize = 0;
 const PLACE: usize = 1;
 
 const STEPS: usize = 2;
+
+// A report into its buffer.
+pub(crate) fn put_report(buffer: &mut [u8], found: Report)
+    requires { ⌜ length (now buffer) ≡ reportSize ⌝ }
+    ensures { λ _. ⌜ now (buffer .exit) ≡ reportBytes found ⌝ }
+{
+    put_word(buffer, NUMBER, found.number);
+    put_word(buffer, PLACE, found.place);
+    put_word(buffer, STEPS, found.steps);
+}
 
 // Returns the number, and writes number, place and Steps. A report that is not 12 bytes answers BAD_SIZE and keeps every byte.
 #[no_mangle]
@@ -28,8 +39,6 @@ pub extern "C" fn pomurica_check(trace: &[u8], report: &mut [u8]) -> u32
         return number::BAD_SIZE;
     }
     let found = trace::check::check(trace);
-    put_word(report, NUMBER, found.number);
-    put_word(report, PLACE, found.place);
-    put_word(report, STEPS, found.steps);
+    put_report(report, found);
     found.number
 }

@@ -3,4 +3,5 @@ pub mod batch;
 pub mod check;
 pub mod counting;
 pub mod explanation;
+pub mod session;
 pub mod step;

@@ -42,9 +42,12 @@ WRONG-STEP = 11
 abbrev pub TRAILING : ℕ
 TRAILING = 12
 
--- the counts' (document 02, No. 1), and of who writes into a lent buffer (No. 7)
+-- the counts' (document 02, No. 1), a feeding's (No. 6), and of who writes into a lent buffer (No. 7)
 abbrev pub FULL : ℕ
 FULL = 13
+
+abbrev pub CLOSED : ℕ
+CLOSED = 14
 
 abbrev pub NO-ROOM : ℕ
 NO-ROOM = 15

@@ -26,7 +26,9 @@ pub const WRONG_STEP: u32 = 11;
 
 pub const TRAILING: u32 = 12;
 
-// The counts' (document 02, No. 1), and of who writes into a lent buffer (No. 7):
+// The counts' (document 02, No. 1), a feeding's (No. 6), and of who writes into a lent buffer (No. 7):
 pub const FULL: u32 = 13;
+
+pub const CLOSED: u32 = 14;
 
 pub const NO_ROOM: u32 = 15;

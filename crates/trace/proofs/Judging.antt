@@ -1,13 +1,12 @@
 -- What the code's tests say in the terms of the definitions: one word is both halves of a head, and a Step under a right
 -- head is the one that the rules give exactly where its number, its value and its block are.
-use mathlib.Core.Path.{_≡_, refl, sym, ap, _∙_}
+use mathlib.Core.Path.{_≡_, refl, sym, ap, _∙_, subst}
 use mathlib.Core.Bool.{Bool, true, false}
 use mathlib.Core.List.{List, _++_, append-nil}
-use mathlib.Core.Logic.{_↔_}
+use mathlib.Core.Logic.{_⊎_, inl, inr, _↔_}
 use Prim.Native.Nat.{ℕ, zero, suc, _+_, _-_, _*_, _<_, _≤_, _^_}
 use native.Mathlib.Omega.{arith}
 use native.Mathlib.Nat.{mul-zero, mul-suc}
-use native.Mathlib.Numerals.{add-one}
 use lib.ListN.{length, take, drop, length-take, length-drop, drop-of-length-le}
 use lib.Seq.{take-all, take-length, drop-drop}
 use lib.Dec.{lit<}
@@ -16,13 +15,14 @@ use Rattle.words.specs.Word.{half, spelt, Bytes}
 use Rattle.words.proofs.Spell.{two-halves, as-word}
 use Rattle.rules.specs.declared.event.Event.{Event}
 use Rattle.rules.specs.declared.verdict.Answer.{Answer}
+use Rattle.trace.specs.declared.judgements.Run.{Run}
 use Rattle.trace.specs.Layout.{Layout, Lawful, startSize, stepSize, endSize, mostSteps, placeOf, blockAfterAt}
 use Rattle.trace.specs.Layout.{headSize, lengthAt, kindAt, countAt, startBlockAt, codeAt, aAt, bAt}
 use Rattle.trace.specs.Published.{IsAnswer, stepShowing, stepRecord}
 use Rattle.trace.specs.Report.{_else_, headNumber, startNumber, stepNumber, endNumber, endReport, reportFrom, report}
 use Rattle.trace.specs.Report.{eventOf, refused, BAD-RECORD, BAD-COUNT, WRONG-STEP, TRAILING}
-use Rattle.trace.specs.Judged.{Shows, Judged}
-use Rattle.trace.proofs.Faults.{differ, else-first, else-zero, unless-zero, same-yes, same-no, head-bad, head-whole}
+use Rattle.trace.specs.Judged.{Shows, Judged, blockAfter, numberBehind, Went}
+use Rattle.trace.proofs.Faults.{differ, below, else-first, else-zero, unless-zero, same-yes, same-no, head-bad, head-whole}
 use Rattle.trace.proofs.Faults.{refused-on, refused-at}
 use Rattle.trace.proofs.Records.{answerOf, answer-fits, step-shows, shown-answer, shown-block}
 
@@ -188,59 +188,120 @@ block-whole L s z = omega (arith, length-take (L .size) (drop startBlockAt s), l
 
 -- ---- the loop over the Steps
 
--- k of the Steps due were right, from the block first to this one, and the record due begins at this place
-pub record Reached (L : Layout) (trace : List ℕ) (steps : ℕ) (first block : List ℕ) (k place : ℕ) : Type 0 where
-  pub few : k ≤ steps
-  pub at : place ≡ placeOf L k
-  pub inside : place ≤ length trace
-  pub size : length block ≡ L .size
-  pub same : reportFrom L steps 0 first (drop (startSize L) trace)
-      ≡ reportFrom L (steps - k) k block (drop place trace)
+-- k of so many Steps were right, from the front of r on and from the block b to the block c, and the next one begins at this place
+pub record Reached (L : Layout) (r : List ℕ) (count : ℕ) (b c : List ℕ) (k at : ℕ) : Type 0 where
+  pub few : k ≤ count
+  pub place : at ≡ stepSize L * k
+  pub inside : at ≤ length r
+  pub size : length c ≡ L .size
+  pub right : (j : ℕ) → j < k → numberBehind L j b r ≡ 0
+  pub block : c ≡ blockAfter L k b r
 
-pub reached-none : (L : Layout) (trace : List ℕ) (steps : ℕ) (first : List ℕ) → startSize L ≤ length trace
-    → length first ≡ L .size → Reached L trace steps first first 0 (startSize L)
-reached-none L trace steps first h k =
-    let e : steps ≡ steps - 0 = omega arith in
+pub reached-none : (L : Layout) (r : List ℕ) (count : ℕ) (b : List ℕ) → length b ≡ L .size → Reached L r count b b 0 0
+unfolding blockAfter
+reached-none L r count b h =
     record {
       few = omega arith;
-      at = omega (arith, mul-zero (stepSize L));
-      inside = h;
-      size = k;
-      same = ap (λ (m : ℕ). reportFrom L m 0 first (drop (startSize L) trace)) e;
+      place = sym (mul-zero (stepSize L));
+      inside = omega arith;
+      size = h;
+      right = λ j l. absurd (omega arith);
+      block = refl;
     }
 
-module _ (L : Layout) (LL : Lawful L) (trace : List ℕ) (steps : ℕ) (first block : List ℕ) (k place : ℕ)
-    (at : Reached L trace steps first block k place) where
-  pub reached-wrong : k < steps → (fault : ℕ) → fault ≡ stepNumber L block (drop place trace) → (fault ≡ 0 → ⊥)
-      → record { number = fault; place = place; steps = k } ≡ reportFrom L steps 0 first (drop (startSize L) trace)
-  reached-wrong h fault e z =
-      (λ i. record { number = e i; place = at .at i; steps = k })
-      ∙ sym (at .same ∙ from-wrong L (steps - k) k block (drop place trace) (omega arith) (λ w. z (e ∙ w)))
+module _ (L : Layout) (LL : Lawful L) (r : List ℕ) (count : ℕ) (b c : List ℕ) (k at : ℕ) (here : Reached L r count b c k at)
+    (l : k < count) (n : ℕ) (d : List ℕ) (j : Judged L (drop at r) c n d) where
+  -- what is said of the next one
+  behind : n ≡ numberBehind L k b r
+  behind = j .number ∙ (λ i. stepNumber L (here .block i) (drop (here .place i) r))
 
-  pub reached-next : k < steps → stepNumber L block (drop place trace) ≡ 0 → (c : List ℕ)
-      → c ≡ L .after block (eventOf (drop place trace)) → Reached L trace steps first c (k + 1) (place + stepSize L)
-  reached-next h z c e =
-      let r : List ℕ = drop place trace in
-      let m : steps - k - 1 ≡ steps - (k + 1) = omega arith in
-      let room : stepSize L ≤ length r = step-whole L block r z in
+  pub reached-next : n ≡ 0 → Reached L r count b d (k + 1) (at + stepSize L)
+  unfolding blockAfter
+  reached-next z =
+      let e : d ≡ L .after c (eventOf (drop at r)) = j .block z in
+      let whole : stepSize L ≤ length (drop at r) = step-whole L c (drop at r) (sym (j .number) ∙ z) in
+      let up : suc k ≡ k + 1 = omega arith in
       record {
         few = omega arith;
-        at = omega (arith, ap (λ (j : ℕ). stepSize L * j) (add-one k), mul-suc (stepSize L) k);
-        inside = omega (arith, length-drop place trace);
-        size = ap length e ∙ LL .length-after block (eventOf r) (at .size);
-        same = at .same
-            ∙ from-right L (steps - k) k block r (omega arith) z
-            ∙ (λ i. reportFrom L (m i) (k + 1) (sym e i) (drop-drop (stepSize L) place trace i));
+        place = omega (arith, here .place, ap (λ (m : ℕ). stepSize L * m) up, mul-suc (stepSize L) k);
+        inside = omega (arith, whole, length-drop at r);
+        size = ap length e ∙ LL .length-after c (eventOf (drop at r)) (here .size);
+        right = λ i h. go i (below i k) h;
+        block = e
+            ∙ (λ i. L .after (here .block i) (eventOf (drop (here .place i) r)))
+            ∙ ap (λ (m : ℕ). blockAfter L m b r) up;
+      }
+    where
+      go : (i : ℕ) → (i < k) ⊎ (k ≤ i) → i < k + 1 → numberBehind L i b r ≡ 0
+      go i (inl h) u = here .right i h
+      go i (inr h) u = let e : i ≡ k = omega arith in ap (λ (m : ℕ). numberBehind L m b r) e ∙ sym behind ∙ z
+
+  pub reached-wrong : (n ≡ 0 → ⊥) → Went L r count b (record { right = k; fault = n }) d
+  reached-wrong z =
+      record {
+        few = here .few;
+        inside = omega (arith, here .inside, here .place);
+        right = here .right;
+        all = λ e. absurd (z e);
+        wrong = λ _. (l, behind);
       }
 
-  pub reached-end : steps ≤ k → endReport steps place (drop place trace)
-      ≡ reportFrom L steps 0 first (drop (startSize L) trace)
-  reached-end h =
-      let e : steps ≡ k = omega arith in
-      let m : steps - k ≡ 0 = omega arith in
-      (λ i. endReport (e i) (at .at i) (drop place trace))
-      ∙ sym (at .same ∙ ap (λ (x : ℕ). reportFrom L x k block (drop place trace)) m
-      ∙ from-end L k block (drop place trace))
+pub reached-all : (L : Layout) (r : List ℕ) (count : ℕ) (b c : List ℕ) (k at : ℕ) → Reached L r count b c k at → count ≤ k
+    → Went L r count b (record { right = k; fault = 0 }) c
+reached-all L r count b c k at here l =
+    record {
+      few = here .few;
+      inside = omega (arith, here .inside, here .place);
+      right = here .right;
+      all = λ _. (omega (arith, here .few), here .block);
+      wrong = λ z. absurd (z refl);
+    }
+
+-- the same of equal blocks
+pub went-same : (L : Layout) (r : List ℕ) (n : ℕ) (b d : List ℕ) (v : Run) (c e : List ℕ) → b ≡ d → c ≡ e → Went L r n b v c
+    → Went L r n d v e
+went-same L r n b d v c e p q w =
+    subst (λ (x : List ℕ). Went L r n d v x) q (subst (λ (x : List ℕ). Went L r n x v c) p w)
+
+-- ---- what the Steps say of the report
+
+module _ (L : Layout) where
+  -- behind right Steps it is that of the rest
+  went-right : (k m : ℕ) (b r : List ℕ) → k ≤ m → ((j : ℕ) → j < k → numberBehind L j b r ≡ 0)
+      → reportFrom L m 0 b r ≡ reportFrom L (m - k) k (blockAfter L k b r) (drop (stepSize L * k) r)
+  unfolding blockAfter
+  went-right zero m b r h right =
+      let e : m ≡ m - 0 = omega arith in
+      λ i. reportFrom L (e i) 0 b (drop (sym (mul-zero (stepSize L)) i) r)
+  went-right (suc k) m b r h right =
+      let up : k + 1 ≡ suc k = omega arith in
+      let less : m - k - 1 ≡ m - suc k = omega arith in
+      went-right k m b r (omega arith) (λ j l. right j (omega arith))
+      ∙ from-right L (m - k) k (blockAfter L k b r) (drop (stepSize L * k) r) (omega arith) (right k (omega arith))
+      ∙ (λ i. reportFrom L (less i) (up i) (blockAfter L (suc k) b r)
+      ((drop-drop (stepSize L) (stepSize L * k) r ∙ ap (λ (n : ℕ). drop n r) (sym (mul-suc (stepSize L) k))) i))
+
+  module _ (b r : List ℕ) (n : ℕ) (v : Run) (c : List ℕ) (went : Went L r n b v c) where
+    -- a wrong one is told
+    pub went-wrong : (v .fault ≡ 0 → ⊥)
+        → record { number = v .fault; place = placeOf L (v .right); steps = v .right } ≡ reportFrom L n 0 b r
+    went-wrong z =
+        let w = went .wrong z in
+        let k : ℕ = v .right in
+        sym (went-right k n b r (went .few) (went .right)
+        ∙ from-wrong L (n - k) k (blockAfter L k b r) (drop (stepSize L * k) r) (omega (arith, w .0)) (λ e. z (w .1 ∙ e))
+        ∙ (λ i. record { number = sym (w .1) i; place = placeOf L k; steps = k }))
+
+    -- and where all are right, the End
+    pub went-all : v .fault ≡ 0 → endReport n (placeOf L (v .right)) (drop (stepSize L * v .right) r) ≡ reportFrom L n 0 b r
+    went-all z =
+        let k : ℕ = v .right in
+        let e : k ≡ n = went .all z .0 in
+        let none : n - k ≡ 0 = omega arith in
+        sym (went-right k n b r (went .few) (went .right)
+        ∙ ap (λ (m : ℕ). reportFrom L m k (blockAfter L k b r) (drop (stepSize L * k) r)) none
+        ∙ from-end L k (blockAfter L k b r) (drop (stepSize L * k) r)
+        ∙ ap (λ (m : ℕ). endReport m (placeOf L k) (drop (stepSize L * k) r)) e)
 
 -- ---- slices
 

@@ -12,3 +12,8 @@ pub mod Determined
 pub mod Checkers
 pub mod Cases
 pub mod Theorems
+pub mod Feeding
+pub mod Taking
+pub mod Arriving
+pub mod Knowing
+pub mod Arrivals

@@ -1,11 +1,13 @@
--- What the judgement of a Step goes by and what it leaves: its number, and where the Step is right the block after it.
+-- What the judgement of a Step goes by and what it leaves: its number, and where the Step is right the block after it; and that of
+-- many Steps, one behind the other.
 use mathlib.Core.Path.{_≡_}
 use mathlib.Core.List.{List}
-use Prim.Native.Nat.{ℕ}
-use lib.ListN.{take, drop}
+use Prim.Native.Nat.{ℕ, zero, suc, _*_, _<_, _≤_}
+use lib.ListN.{length, take, drop}
 use Rattle.words.specs.Word.{spelt}
 use Rattle.rules.specs.declared.verdict.Answer.{Answer}
-use Rattle.trace.specs.Layout.{Layout, numberAt, valueAt, blockAfterAt}
+use Rattle.trace.specs.declared.judgements.Run.{Run}
+use Rattle.trace.specs.Layout.{Layout, stepSize, numberAt, valueAt, blockAfterAt}
 use Rattle.trace.specs.Report.{ACCEPTED, stepNumber, eventOf}
 
 -- what stands in a Step at the places of the answer and of the block after is this answer and this block
@@ -18,3 +20,22 @@ pub record Shows (L : Layout) (r : List ℕ) (x : Answer) (c : List ℕ) : Type 
 pub record Judged (L : Layout) (r b : List ℕ) (n : ℕ) (c : List ℕ) : Type 0 where
   pub number : n ≡ stepNumber L b r
   pub block : n ≡ ACCEPTED → c ≡ L .after b (eventOf r)
+
+module _ (L : Layout) where
+  -- the block after k Steps from the front of r on, b being the block before them
+  unfoldable pub blockAfter : ℕ → List ℕ → List ℕ → List ℕ
+  blockAfter zero b r = b
+  blockAfter (suc k) b r = L .after (blockAfter k b r) (eventOf (drop (stepSize L * k) r))
+
+  -- what is said of the one behind them
+  abbrev pub numberBehind : ℕ → List ℕ → List ℕ → ℕ
+  numberBehind k b r = stepNumber L (blockAfter k b r) (drop (stepSize L * k) r)
+
+  -- so many Steps were to be judged, from the front of r on and from the block b; v says how many are right and what is wrong with
+  -- the next one, if anything, and c is what the block became
+  pub record Went (r : List ℕ) (count : ℕ) (b : List ℕ) (v : Run) (c : List ℕ) : Type 0 where
+    pub few : v .right ≤ count
+    pub inside : stepSize L * v .right ≤ length r
+    pub right : (j : ℕ) → j < v .right → numberBehind j b r ≡ ACCEPTED
+    pub all : v .fault ≡ ACCEPTED → (v .right ≡ count) × (c ≡ blockAfter (v .right) b r)
+    pub wrong : (v .fault ≡ ACCEPTED → ⊥) → (v .right < count) × (v .fault ≡ numberBehind (v .right) b r)

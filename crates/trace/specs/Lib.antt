@@ -2,5 +2,8 @@ pub mod Layout
 pub mod Published
 pub mod Report
 pub mod Judged
+pub mod Session
+pub mod Fed
 pub mod Claims
 pub mod Theorems
+pub mod Arrival

@@ -1,8 +1,8 @@
-// The checker: one pass over the trace, one working block stepped in place, no copy of the trace.
+// The checker: one pass over the trace, from a copy of its start block, and no copy of the trace.
 use crate::judgements::ACCEPTED;
 use crate::judgements::judge_end;
 use crate::judgements::judge_start;
-use crate::judgements::judge_step;
+use crate::judgements::judge_steps;
 use crate::layout;
 use state::number::TRAILING;
 use state::place;
@@ -51,24 +51,18 @@ fn finish(r: &[u8], steps: u32, place: u32) -> Report
 }
 
 // The Steps and the End, from the block of a right Start that counts this many Steps.
-fn judge_rest(trace: &[u8], steps: u32, block: &mut [u8]) -> Report
-    requires { ⌜ (steps ≤ mostSteps) × (startSize layout01 ≤ length (now trace)) × (length (now block) ≡ layout01 .size) ⌝ }
+fn judge_rest(trace: &[u8], steps: u32, block: &mut [u8; place::BLOCK_SIZE]) -> Report
+    requires { ⌜ (steps ≤ mostSteps) × (startSize layout01 ≤ length (now trace)) ⌝ }
     ensures { λ v. ⌜ v ≡ reportFrom layout01 steps 0 (now (block .entry)) (drop (startSize layout01) (now (trace .entry))) ⌝ }
 {
-    let mut k: u32 = 0;
-    let mut place: u32 = layout::START_SIZE;
-    while k < steps {
-        let at = place as usize;
-        let fault = judge_step(&trace[at..], block);
-        if fault != ACCEPTED {
-            return Report {
-                number: fault,
-                place,
-                steps: k,
-            };
-        }
-        k += 1;
-        place += layout::STEP_SIZE;
+    let run = judge_steps(&trace[layout::START_SIZE as usize..], steps, block);
+    let place = layout::START_SIZE + layout::STEP_SIZE * run.right;
+    if run.fault != ACCEPTED {
+        return Report {
+            number: run.fault,
+            place,
+            steps: run.right,
+        };
     }
     let at = place as usize;
     finish(&trace[at..], steps, place)

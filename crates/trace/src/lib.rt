@@ -2,3 +2,4 @@
 pub mod check;
 mod judgements;
 pub mod layout;
+pub mod session;

@@ -1,12 +1,15 @@
-// Reads a trace from standard input, up to 65,536 bytes, and prints the checker's number, place and Steps.
+// Judges a trace on standard input as it comes, of any length, and prints the checker's number, place and Steps.
 //
-// A longer input prints TOO LONG, and no more than 65,537 bytes are read for it. A read that fails, as of a directory or
-// a closed input, prints CANNOT READ: it is not the end of the input.
+// It reads to the end of the input also where a fault is known before, so that a sender is not cut off. A read that fails, as
+// of a directory or a closed input, prints CANNOT READ: it is not the end of the input.
 use libc::STDIN_FILENO;
 use libc::STDOUT_FILENO;
+use state::place::BLOCK_SIZE;
+use trace::session::Progress;
+use trace::session::RECORD_SIZE;
 
-fn print_report(trace: &[u8]) {
-    let v = trace::check::check(trace);
+fn print_report(p: Progress) {
+    let v = trace::session::close(p);
     io::print_decimal(STDOUT_FILENO, v.number as u64);
     io::write_all(STDOUT_FILENO, b" ");
     io::print_decimal(STDOUT_FILENO, v.place as u64);
@@ -19,41 +22,50 @@ fn cannot_read() {
     io::write_all(STDOUT_FILENO, b"CANNOT READ\n");
 }
 
-// The space is full: it is the whole input if no byte is left.
-fn judge_full(space: &[u8]) {
-    let mut past = [0u8; 1];
-    let got = libc::read(STDIN_FILENO, &mut past);
+// The numbers of the session after a read, and what the read answered: how many bytes came, 0 at the end of the input, or less
+// where it failed.
+struct Turn {
+    progress: Progress,
+    got: isize,
+}
+
+// Reads once, and feeds what came.
+fn read_some(
+    p: Progress,
+    block: &mut [u8; BLOCK_SIZE],
+    unfinished: &mut [u8; RECORD_SIZE],
+    run: &mut [u8],
+) -> Turn {
+    let got = libc::read(STDIN_FILENO, run);
+    let n = io::count(got, run);
+    Turn {
+        progress: trace::session::feed(p, block, unfinished, &run[..n]),
+        got,
+    }
+}
+
+// A proved loop ends, and nothing says that an input does: so the turns are counted, down from a number that no run uses up.
+fn judge_input(run: &mut [u8]) {
+    let opened = trace::session::open();
+    let mut p = opened.progress;
+    let mut block = opened.block;
+    let mut unfinished = opened.unfinished;
+    let mut got = 1;
+    let mut turns = u64::MAX;
+    while 0 < turns && 0 < got {
+        let t = read_some(p, &mut block, &mut unfinished, run);
+        p = t.progress;
+        got = t.got;
+        turns -= 1;
+    }
     if got < 0 {
         cannot_read();
         return;
     }
-    if got == 0 {
-        print_report(space);
-        return;
-    }
-    io::write_all(STDOUT_FILENO, b"TOO LONG\n");
-}
-
-// Reads to the end of the input, in pieces of whatever size come, and judges it.
-fn judge_input(space: &mut [u8]) {
-    let mut n = 0;
-    while n < space.len() {
-        let got = libc::read(STDIN_FILENO, &mut space[n..]);
-        if got < 0 {
-            cannot_read();
-            return;
-        }
-        let more = io::count(got, &space[n..]);
-        if more == 0 {
-            print_report(&space[..n]);
-            return;
-        }
-        n += more;
-    }
-    judge_full(space);
+    print_report(p);
 }
 
 fn main() {
-    let mut space = io::large_buffer();
-    judge_input(&mut space);
+    let mut run = io::large_buffer();
+    judge_input(&mut run);
 }

@@ -1,6 +1,6 @@
 -- A wrong Start is reported at once; from a right one the judgement goes on with the copy of its block.
 use mathlib.Core.List.{List}
-use mathlib.Core.Path.{_≡_, sym, ap, _∙_}
+use mathlib.Core.Path.{_≡_, sym, _∙_}
 use Prim.Native.Nat.{ℕ}
 use borrow.Author.Needs.{needs}
 use lib.ListN.{length, drop}
@@ -46,17 +46,16 @@ judge-rest-requires : tie.Need-judge-rest-requires
 judge-rest-requires c κs =
     let copy = c .before .before in
     let whole = start-whole layout01 _ (right (started copy)) in
-    (omega (arith, whole .1, copy .before .before .before .word-at .ensures), whole .0, ap length (block copy) ∙ size copy)
+    (omega (arith, whole .1, copy .before .before .before .word-at .ensures), whole .0)
 
 returns-2 : tie.Need-returns-2
 returns-2 c =
-    let rest = c .before in
-    let copy = rest .before .before .before in
+    let copy = c .before .before .before in
     let at = started copy in
     let s = trace (at .before) in
     let count = copy .before .before .before .word-at .ensures in
     exact layout01 lawful01 s (bytes (at .before)) _
-    (rest .judge-rest .ensures
+    (c .judge-rest .ensures
     ∙ (λ i. reportFrom layout01 (count i) 0 (block copy i) (drop (startSize layout01) s))
     ∙ sym (start-right layout01 s (right at)))
 
@@ -73,6 +72,5 @@ check-spec =
     (λ c. omega (arith, start-whole layout01 _ (right (c .before)) .0))
     (λ c. search needs)
     (λ c κs. search needs)
-    (λ c. search needs)
     judge-rest-requires
     returns-2)

@@ -1,0 +1,100 @@
+#include "any_session.h"
+
+#include "../second/second.h"
+#include "../second/words.h"
+
+enum {
+    MOST_STEPS = 65535,
+    FEW = 10 /* bytes: a head, and a whole End, end within so many */
+};
+
+/* A number beside this one, or itself. */
+static uint32_t about(struct chance *chance, uint32_t number)
+{
+    return number + any_below(chance, 3) - 1;
+}
+
+size_t any_arriving(struct chance *chance, enum damage damage, uint8_t *trace)
+{
+    struct expected expected;
+    const size_t length = make_trace(chance, damage, trace, &expected);
+
+    if (one_in(chance, 16))
+        put_word(trace + START_COUNT, about(chance, MOST_STEPS));
+    return length;
+}
+
+/* Where the next record begins behind a byte of a trace. */
+static size_t next_record(size_t at)
+{
+    return at < START_SIZE ? START_SIZE : at - (at - START_SIZE) % STEP_SIZE + STEP_SIZE;
+}
+
+size_t any_cut(struct chance *chance, size_t at, size_t length)
+{
+    size_t cut;
+
+    switch (any_below(chance, 8)) {
+    case 0: cut = at; break;
+    case 1: cut = length; break;
+    case 2: cut = at + any_below(chance, 2 * STEP_SIZE); break;
+    case 3:
+    case 4: cut = at + any_below(chance, FEW); break;
+    default: cut = next_record(at) - 1 + any_below(chance, FEW); break;
+    }
+    return cut < length ? cut : length;
+}
+
+size_t any_session(struct chance *chance, const uint8_t *trace, size_t length, struct pomurica_session *session)
+{
+    const uint32_t records = one_in(chance, 4) ? 0 : any_below(chance, (uint32_t)(length / STEP_SIZE) + 1);
+    const size_t fed = any_cut(chance, records * STEP_SIZE, length);
+
+    second_open(session);
+    second_feed(session, trace, fed);
+    return fed;
+}
+
+/* As many bytes as a head or a record has, or about as many. */
+static uint32_t any_held(struct chance *chance)
+{
+    static const uint32_t SIZES[] = { HEAD_SIZE, START_SIZE, STEP_SIZE, END_SIZE };
+
+    return about(chance, SIZES[any_below(chance, sizeof SIZES / sizeof SIZES[0])]);
+}
+
+/* A small number, or any. */
+static uint32_t any_small(struct chance *chance, uint32_t limit)
+{
+    return one_in(chance, 4) ? any_word(chance) : any_below(chance, limit);
+}
+
+/* A bit of the record that is held, or of the room behind it; half the time of its head. */
+static void spoil_record(struct chance *chance, uint8_t *record)
+{
+    const uint32_t size = one_in(chance, 2) ? HEAD_SIZE : STEP_SIZE;
+
+    record[any_below(chance, size)] ^= (uint8_t)(1u << any_below(chance, 8));
+}
+
+static void spoil_one(struct chance *chance, struct pomurica_session *session)
+{
+    switch (any_below(chance, 10)) {
+    case 0: session->stage = any_small(chance, POMURICA_STAGE_OVER + 2); break;
+    case 1: session->count = about(chance, session->steps); break;
+    case 2: session->steps = about(chance, session->count); break;
+    case 3: session->place = 0u - any_below(chance, 2 * STEP_SIZE); break; /* it will wrap */
+    case 4: session->held = any_held(chance); break;
+    case 5: session->held = any_word(chance); break;
+    case 6: session->fault = any_small(chance, POMURICA_NO_ROOM + 2); break;
+    case 7: session->closed = any_small(chance, 3); break;
+    case 8: spoil_record(chance, session->unfinished); break;
+    default: any_block(chance, session->block); break;
+    }
+}
+
+void spoil_session(struct chance *chance, struct pomurica_session *session)
+{
+    for (uint32_t left = 1 + any_below(chance, 3); left > 0; left--)
+        spoil_one(chance, session);
+}

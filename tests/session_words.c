@@ -1,0 +1,183 @@
+/*
+ * Sessions of words that no feeding leaves, called from C: each gets an answer,
+ * by the same rules, whether its bytes come at once or one by one.
+ */
+#include "arriving.h"
+#include "edge.h"
+#include "group.h"
+
+#include <string.h>
+
+#define COUNT(list) (sizeof(list) / sizeof((list)[0]))
+
+/* Feeding these bytes, at once and one by one, returns the number and leaves those words. */
+static void expect_fed(const char *what, const struct pomurica_session *words, const uint8_t *bytes, size_t length,
+                       uint32_t number, const struct pomurica_session *due)
+{
+    static struct fed fed;
+    uint32_t last = number;
+
+    resume(&fed, words, length);
+    check(feed(&fed, bytes, length) == number && has_words(&fed, due), "%s, in one run", what);
+    finish(&fed);
+    resume(&fed, words, length);
+    for (size_t i = 0; i < length; i++)
+        last = feed(&fed, bytes + i, 1);
+    check(last == number && has_words(&fed, due), "%s, byte by byte", what);
+    finish(&fed);
+}
+
+/* Closing it gives this number, and the place and the Steps that it has. */
+static void expect_closed(const struct pomurica_session *words, uint32_t number)
+{
+    const struct verdict due = { number, words->place, words->steps };
+    static struct fed fed;
+
+    resume(&fed, words, words->place);
+    expect_closing(&fed, &due);
+    finish(&fed);
+}
+
+/* Any number in closed counts as closed, and in fault as a fault. */
+static void try_any_word(const uint8_t *trace, struct pomurica_session words, uint32_t any)
+{
+    const uint32_t number = words.stage == POMURICA_STAGE_OVER ? POMURICA_DONE : POMURICA_SHORT;
+
+    words.closed = any;
+    expect_fed("closed", &words, trace, LENGTH, POMURICA_CLOSED, &words);
+    expect_closed(&words, number);
+    words.fault = any;
+    expect_fed("closed, with a fault", &words, trace, LENGTH, POMURICA_CLOSED, &words);
+    words.closed = 0;
+    expect_fed("a fault", &words, trace, LENGTH, any, &words);
+    expect_closed(&words, any);
+}
+
+/* Any stage from 2 on counts as over, whatever is held. */
+static void try_any_stage(const uint8_t *trace, struct pomurica_session words, uint32_t stage)
+{
+    struct pomurica_session due;
+
+    words.stage = stage;
+    due = faulted(words, POMURICA_TRAILING);
+    expect_fed("over", &words, trace, LENGTH, POMURICA_TRAILING, &due);
+    expect_fed("over, no bytes", &words, trace, 0, POMURICA_DONE, &words);
+    expect_closed(&words, POMURICA_DONE);
+}
+
+static void run_any_words(const uint8_t *trace)
+{
+    static const uint32_t ANY[] = {
+        1, 2, 3, 4, 5, 6, 7, 8, 9, 10, 11, 12, 13, 14, 15, 16, 99, 0x100, 0x10000, UINT32_C(1) << 31, UINT32_MAX
+    };
+
+    for (size_t length = 0; length <= LENGTH; length += POMURICA_END_SIZE)
+        for (size_t i = 0; i < COUNT(ANY); i++) {
+            const struct pomurica_session words = words_due(trace, length);
+
+            try_any_word(trace, words, ANY[i]);
+            if (ANY[i] >= POMURICA_STAGE_OVER)
+                try_any_stage(trace, words, ANY[i]);
+        }
+}
+
+/* More held than the record due has: no byte is taken, whatever the words and bytes are. */
+static void run_too_much_held(const uint8_t *trace)
+{
+    static const uint32_t MORE_HELD[] = { 0, 1, 8, 100, 184, 192, 200, 0x10000, UINT32_C(1) << 31 };
+
+    for (uint32_t record = 0; record < RECORDS; record++)
+        for (size_t i = 0; i < COUNT(MORE_HELD); i++) {
+            struct pomurica_session words = words_due(trace, record_place(record));
+
+            memset(words.unfinished, 0xC3, sizeof words.unfinished);
+            words.held = record_end(record) - record_place(record) + MORE_HELD[i];
+            expect_fed("too much held", &words, trace, LENGTH, POMURICA_DONE, &words);
+            expect_closed(&words, POMURICA_SHORT);
+        }
+}
+
+/* Whatever stood in the room for the record, and wherever the trace is said to be, a right record leaves it so. */
+static void run_odd_places(const uint8_t *trace)
+{
+    static const uint32_t PLACES[] = {
+        0, 1, UINT32_MAX, 0u - POMURICA_END_SIZE, 0u - POMURICA_START_SIZE, 0u - POMURICA_STEP_SIZE
+    };
+
+    for (uint32_t record = 0; record < RECORDS; record++)
+        for (size_t i = 0; i < COUNT(PLACES); i++) {
+            const uint32_t place = record_place(record), size = record_end(record) - place;
+            struct pomurica_session words = words_due(trace, place), due = words_due(trace, place + size);
+
+            memset(words.unfinished, 0xC3, sizeof words.unfinished);
+            words.place = PLACES[i];
+            due.place = PLACES[i] + size;
+            expect_fed("an odd place", &words, trace + place, size, POMURICA_DONE, &due);
+        }
+}
+
+/* A head that nobody looked at when it came is looked at with the record's last byte. */
+static void run_odd_heads(const uint8_t *trace)
+{
+    for (uint32_t record = 0; record < RECORDS; record++)
+        for (size_t held = HEAD_SIZE; held < HEAD_SIZE + 2; held++) {
+            const uint32_t place = record_place(record), size = record_end(record) - place;
+            struct pomurica_session words = words_due(trace, place + held), due = words;
+
+            words.unfinished[0] ^= 1;
+            memcpy(due.unfinished, trace + place, size - 1);
+            due.unfinished[0] ^= 1;
+            due.held = size - 1;
+            expect_fed("an odd head, not yet", &words, trace + place + held, size - 1 - held, POMURICA_DONE, &due);
+            due = faulted(words, POMURICA_BAD_RECORD);
+            expect_fed("an odd head", &words, trace + place + held, size - held, POMURICA_BAD_RECORD, &due);
+        }
+}
+
+/* Steps and count at the ends of their range: the End has to have as many as were found, also where count is below. */
+static void run_odd_counts(const uint8_t *trace)
+{
+    static const struct {
+        uint32_t steps, count;
+    } ODD[] = { { 1, 0 }, { 65536, 65535 }, { 65536, 65536 }, { UINT32_MAX, 0 }, { UINT32_MAX, UINT32_MAX } };
+    const size_t step = record_place(STEPS);
+
+    for (size_t i = 0; i < COUNT(ODD); i++) {
+        struct pomurica_session words = words_due(trace, END_PLACE), due = words_due(trace, LENGTH);
+        uint8_t end[POMURICA_END_SIZE];
+
+        words.steps = due.steps = ODD[i].steps;
+        words.count = due.count = ODD[i].count;
+        memcpy(end, trace + END_PLACE, sizeof end);
+        pomurica_put_word(end, POMURICA_RECORD_COUNT, ODD[i].steps);
+        expect_fed("odd counts, as many as found", &words, end, sizeof end, POMURICA_DONE, &due);
+        pomurica_put_word(end, POMURICA_RECORD_COUNT, ODD[i].steps - 1);
+        due = faulted(words, POMURICA_BAD_COUNT);
+        expect_fed("odd counts, one fewer", &words, end, sizeof end, POMURICA_BAD_COUNT, &due);
+        words = words_due(trace, step);
+        due = words_due(trace, END_PLACE);
+        words.steps = ODD[i].steps - 1;
+        words.count = due.count = due.steps = ODD[i].steps;
+        expect_fed("odd counts, the last Step", &words, trace + step, POMURICA_STEP_SIZE, POMURICA_DONE, &due);
+    }
+}
+
+int main(void)
+{
+    struct chance chance = { 1 };
+    static uint8_t trace[LENGTH];
+
+    open_edge(LENGTH);
+    record_trace(&chance, STEPS, trace);
+    group("any number as closed, as a fault and as a stage");
+    run_any_words(trace);
+    group("more held than the record due has");
+    run_too_much_held(trace);
+    group("any place, and rubbish where the record is put");
+    run_odd_places(trace);
+    group("a wrong head among the bytes held");
+    run_odd_heads(trace);
+    group("any counts");
+    run_odd_counts(trace);
+    return summary();
+}
