@@ -14,7 +14,7 @@ use Rattle.trace.specs.declared.session.Session.{Session}
 use Rattle.trace.specs.Layout.{layout01}
 use Rattle.trace.specs.Published.{Published}
 use Rattle.trace.specs.Report.{report}
-use Rattle.trace.specs.Session.{session, opened, fed, fedAll, feedNumber, shutting, shut, closing}
+use Rattle.trace.specs.Session.{CLOSED, session, opened, fed, fedAll, feedNumber, shutting, shut, closing}
 use Rattle.trace.specs.Arrival.{joined}
 use Rattle.trace.proofs.Feeding.{fed-cut}
 use Rattle.trace.proofs.Arrivals.{arrival01}
@@ -88,8 +88,16 @@ theorems =
       empty-run = λ s t n f. f .leaves ∙ arrival01 .empty-run s;
       closed-feeding = λ s s′ t buffer buffer′ bytes n m h c f.
           let e = left s s′ buffer buffer′ n h c in
-          let same : t ≡ s′ = f .leaves ∙ ap (λ (u : Session). fed layout01 u bytes) e ∙ arrival01 .closed-stays (shut s) bytes (λ z. omega arith) ∙ sym e in
-          (f .number ∙ ap (λ (u : Session). feedNumber (u .progress)) (same ∙ e) ∙ arrival01 .closed-answers (shutting (s .progress)) (λ z. omega arith), same);
+          let same : t ≡ s′ =
+          f .leaves
+          ∙ ap (λ (u : Session). fed layout01 u bytes) e
+          ∙ arrival01 .closed-stays (shut s) bytes (λ z. omega arith)
+          ∙ sym e in
+          let answer : m ≡ CLOSED =
+          f .number
+          ∙ ap (λ (u : Session). feedNumber (u .progress)) (same ∙ e)
+          ∙ arrival01 .closed-answers (shutting (s .progress)) (λ z. omega arith) in
+          (answer, same);
       closed-again = λ s s′ t buffer buffer′ other other′ n m h k c d.
           let e = left s s′ buffer buffer′ n h c in
           let same : closing (s′ .progress) ≡ closing (s .progress) =

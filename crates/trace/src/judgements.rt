@@ -121,9 +121,9 @@ fn judge_each(r: &[u8], count: u32, block: &mut [u8]) -> Run
     }
 }
 
-// As `judge_each`, on a block of its own. Whoever judges Steps calls this, so that the judgement of one has one caller, and the compiler makes it a part of the
-// loop; and of its own block the compiler knows how it lies. So a Step takes 133 instructions, and
-// not 174, or 146 where the block is the caller's.
+// As `judge_each`, on a block of its own. Whoever judges Steps calls this, so that the judgement of one has one caller, and the
+// compiler makes it a part of the loop; and of its own block the compiler knows how it lies. So a Step takes 133 instructions,
+// and not 174, or 146 where the block is the caller's.
 pub(crate) fn judge_steps(r: &[u8], count: u32, block: &mut [u8; BLOCK_SIZE]) -> Run
     ensures { λ v. ⌜ Went layout01 (now (r .entry)) count (now (block .entry)) v (now (block .exit)) ⌝ }
 {
