@@ -6,11 +6,18 @@
 #include <stdarg.h>
 #include <stdio.h>
 
+static const char *complainer = "";
+
+void complain_as(const char *program)
+{
+    complainer = program;
+}
+
 void complain(const char *name, const char *form, ...)
 {
     va_list rest;
 
-    fputs("console: ", stderr);
+    fprintf(stderr, "%s: ", complainer);
     put_name(stderr, name);
     fputs(": ", stderr);
     va_start(rest, form);

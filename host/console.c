@@ -2,8 +2,10 @@
  * console: judges the traces in files and prints one line for each, or counts
  * them.  This file only reads the arguments.
  */
+#include "complain.h"
 #include "judge.h"
 #include "name.h"
+#include "output.h"
 
 #include <stdio.h>
 #include <string.h>
@@ -157,6 +159,7 @@ int main(int argc, char **argv)
     struct wish wish;
 
     setvbuf(stderr, NULL, _IOLBF, BUFSIZ); /* whole lines, also of several consoles on one standard error */
+    complain_as("console");
     if (!parse(argc, argv, &wish) || !is_possible(&wish)) {
         fputs(USAGE, stderr);
         return TROUBLE;

@@ -6,6 +6,7 @@
 #include "done.h"
 #include "input.h"
 #include "name.h"
+#include "output.h"
 #include "page.h"
 #include "phrases.h"
 #include "pomurica.h"
@@ -13,7 +14,6 @@
 #include "tell.h"
 #include "totals.h"
 
-#include <errno.h>
 #include <inttypes.h>
 #include <stdio.h>
 #include <stdlib.h>
@@ -43,14 +43,6 @@ struct run {
 static enum status worse(enum status one, enum status other)
 {
     return one > other ? one : other;
-}
-
-void send_output(void)
-{
-    if (fflush(stdout) == 0 && !ferror(stdout))
-        return;
-    fprintf(stderr, "console: standard output: %s\n", strerror(errno));
-    exit(TROUBLE);
 }
 
 /* Prints the verdict on a file, as one whole line; report has it in its first three words. */

@@ -23,7 +23,4 @@ struct wish {
 /* Does what is asked for with each file. */
 enum status judge_files(const struct wish *wish);
 
-/* Sends what was printed on its way.  What nobody gets must not look like an answer: the program ends. */
-void send_output(void);
-
 #endif

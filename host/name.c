@@ -46,21 +46,25 @@ static bool is_moving(const unsigned char *at, size_t size)
     return false;
 }
 
+size_t shown_size(const char *text)
+{
+    const unsigned char *const at = (const unsigned char *)text;
+    const size_t size = character_size(at);
+
+    return is_moving(at, size) ? 0 : size;
+}
+
 /* A byte that begins no character to be shown is skipped alone, and so are those behind it, which begin none either. */
 static void put_each(FILE *out, const char *name, put_character *put)
 {
-    const unsigned char *at = (const unsigned char *)name;
+    while (*name != '\0') {
+        const size_t size = shown_size(name);
 
-    while (*at != '\0') {
-        const size_t size = character_size(at);
-
-        if (size != 0 && !is_moving(at, size)) {
-            put(out, at, size);
-            at += size;
-        } else {
+        if (size != 0)
+            put(out, (const unsigned char *)name, size);
+        else
             fputc('?', out);
-            at++;
-        }
+        name += size != 0 ? size : 1;
     }
 }
 

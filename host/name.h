@@ -6,7 +6,11 @@
 #ifndef NAME_H
 #define NAME_H
 
+#include <stddef.h>
 #include <stdio.h>
+
+/* The bytes of the character that begins here, in text that ends with a zero, if it is one that is shown; else 0. */
+size_t shown_size(const char *text);
 
 /*
  * Puts a name on a line.  `?` stands for each byte of what is not shown: bytes

@@ -8,7 +8,7 @@
  * A trace is what a unit records of its steps; the checker accepts it exactly
  * when the rules can have made it.
  *
- * The nine functions are proved: for every input they return, give the one
+ * The ten functions are proved: for every input they return, give the one
  * answer that the rules give, and write nothing but what is said here.  They
  * keep nothing between calls, take no memory and may be called from several
  * threads, each with buffers of its own.  A buffer of bytes may lie at any
@@ -16,7 +16,7 @@
  *
  * The archive libconsole.a is x86-64 code for Linux: ELF, the System V calling
  * convention, position independent, for any x86-64 processor.  It defines the
- * nine functions and no other name, calls nothing but the C library's memcpy
+ * ten functions and no other name, calls nothing but the C library's memcpy
  * and memset, and stands behind the objects that use it:
  *
  *     cc -I host program.c libconsole.a
@@ -89,11 +89,15 @@ enum pomurica_record_word {
 #define POMURICA_LONGEST_TRACE \
     (POMURICA_START_SIZE + POMURICA_MOST_STEPS * POMURICA_STEP_SIZE + POMURICA_END_SIZE)
 
+/* The bytes of a trace of n Steps, n being at most POMURICA_MOST_STEPS: 192 + 200 * n. */
+#define POMURICA_TRACE_SIZE(n) \
+    (POMURICA_START_SIZE + (size_t)(n) * POMURICA_STEP_SIZE + POMURICA_END_SIZE)
+
 /*
  * Answer numbers: 0 to 7 of a step; 0, 1 and 8 to 12 of the checker, of an
  * explanation and of a closing, and with 13 of a count; 0, 9 to 12 and 14 of a
- * feeding; 0, 1 and 15 of the lines of counts; 0 and 1 of a batch; 0 of an
- * opening.  (Of a session that was opened: in another one any number may stand
+ * feeding; 0, 1 and 15 of the lines of counts; 0, 1, 10 and 15 of a recording;
+ * 0 and 1 of a batch; 0 of an opening.  (Of a session that was opened: in another one any number may stand
  * as its fault.)
  */
 enum pomurica_number {
@@ -400,6 +404,30 @@ uint32_t pomurica_feed(struct pomurica_session *session,
  */
 uint32_t pomurica_close(struct pomurica_session *session,
                         uint8_t *report, size_t report_len);
+
+/*
+ * The recorder: the trace of the events, one after another from the block.
+ *
+ * block   176 bytes, which need not be good: the one that the Start shows; only
+ *         read.
+ * events  events_len of them, each with its answer in a Step of its own; an
+ *         event that is refused has its number there, and the rest go on.  Only
+ *         read; the length counts elements, and the pointer is aligned as the
+ *         struct is.
+ * buffer  its bytes from the offset on become the trace, which has
+ *         POMURICA_TRACE_SIZE(events_len) bytes; those before it and those behind
+ *         it stay.
+ *
+ * Returns POMURICA_DONE where the trace was written: pomurica_check accepts it,
+ * with Steps equal to events_len.  Else the first of these that applies, and no
+ * byte has changed: POMURICA_BAD_SIZE, if block_len is not 176;
+ * POMURICA_BAD_COUNT, if there are more than 65,535 events; POMURICA_NO_ROOM, if
+ * the offset is past the buffer's end or fewer bytes than the trace has lie
+ * behind it.
+ */
+uint32_t pomurica_record(const uint8_t *block, size_t block_len,
+                         const struct pomurica_event *events, size_t events_len,
+                         uint8_t *buffer, size_t buffer_len, size_t offset);
 
 /* The parts of a Step that the rules decide: its answer's number and value, and the block after, place by place. */
 enum pomurica_part {

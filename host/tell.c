@@ -128,15 +128,11 @@ void tell_explanation(FILE *out, const uint8_t *trace, size_t length, const uint
     }
 }
 
-/* One Step on a line: what the rules give, which a right Step shows. */
-static void tell_step(FILE *out, const uint8_t *trace, uint32_t index)
+void tell_step(FILE *out, const uint8_t *step)
 {
-    const uint32_t place = step_place(index);
-    const uint8_t *const step = trace + place;
     struct due due;
 
     find_due(step, &due);
-    fprintf(out, "  Step %" PRIu32 " at byte %" PRIu32 ": ", index + 1, place);
     tell_event(out, step);
     fputs("; ", out);
     tell_state(out, block_before(step));
@@ -145,17 +141,26 @@ static void tell_step(FILE *out, const uint8_t *trace, uint32_t index)
                  pomurica_get_word(due.answer, 1));
 }
 
+/* A Step of a trace on a line, without its end. */
+static void tell_step_of(FILE *out, const uint8_t *trace, uint32_t index)
+{
+    const uint32_t place = step_place(index);
+
+    fprintf(out, "  Step %" PRIu32 " at byte %" PRIu32 ": ", index + 1, place);
+    tell_step(out, trace + place);
+}
+
 void tell_steps(FILE *out, const uint8_t *trace, const uint8_t *explanation)
 {
     const uint32_t steps = pomurica_get_word(explanation, POMURICA_EXPLANATION_STEPS);
     uint32_t index;
 
     for (index = 0; index < steps; index++) {
-        tell_step(out, trace, index);
+        tell_step_of(out, trace, index);
         fputc('\n', out);
     }
     if (pomurica_get_word(explanation, POMURICA_EXPLANATION_NUMBER) == POMURICA_WRONG_STEP) {
-        tell_step(out, trace, index);
+        tell_step_of(out, trace, index);
         fputs(": WRONG\n", out);
     }
 }

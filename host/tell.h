@@ -10,6 +10,9 @@
 #include <stdint.h>
 #include <stdio.h>
 
+/* What the rules give on a Step, which a right one shows: its event, the state it was in and what came of it. */
+void tell_step(FILE *out, const uint8_t *step);
+
 /* Both take what pomurica_explain says of the trace. */
 
 /*

@@ -44,6 +44,13 @@ uint32_t pomurica_close(struct pomurica_session *session,
     return second_close(session, report, report_len);
 }
 
+uint32_t pomurica_record(const uint8_t *block, size_t block_len,
+                         const struct pomurica_event *events, size_t events_len,
+                         uint8_t *buffer, size_t buffer_len, size_t offset)
+{
+    return second_record(block, block_len, events, events_len, buffer, buffer_len, offset);
+}
+
 /* Where the words of a Step lie: its event, and the parts that the rules decide. */
 enum {
     CODE = 1, A = 2, B = 3, FIRST_PART = 4

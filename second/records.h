@@ -1,6 +1,6 @@
 /*
- * The records of a trace, and what the checker (check.c) and the session
- * (session.c) both ask of one.
+ * The records of a trace, which the recorder (record.c) writes, and what the
+ * checker (check.c) and the session (session.c) both ask of one.
  */
 #ifndef RECORDS_H
 #define RECORDS_H

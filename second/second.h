@@ -1,7 +1,7 @@
 /*
- * A second implementation of document 01, and of No. 1, No. 2, No. 5 and No. 6
- * of document 02, written from the papers alone, to be held against the proved
- * one.  (No. 3 changes no answer, and the table of No. 4 is printed by
+ * A second implementation of document 01, and of No. 1, No. 2, No. 5, No. 6 and
+ * No. 7 of document 02, written from the papers alone, to be held against the
+ * proved one.  (No. 3 changes no answer, and the table of No. 4 is printed by
  * decisions.py.)  Each function returns the number; none keeps anything between
  * calls but what is in a session.  (NULL, 0) is an empty buffer, an empty list
  * and an empty run.
@@ -33,6 +33,11 @@ struct pomurica_session;
 uint32_t second_open(struct pomurica_session *session);
 uint32_t second_feed(struct pomurica_session *session, const uint8_t *bytes, size_t bytes_len);
 uint32_t second_close(struct pomurica_session *session, uint8_t *report, size_t report_len);
+
+/* No. 7: the trace of a list of events from a block, which is only read, into a buffer from the offset on. */
+uint32_t second_record(const uint8_t *block, size_t block_len,
+                       const struct pomurica_event *events, size_t events_len,
+                       uint8_t *buffer, size_t buffer_len, size_t offset);
 
 /* No. 1: what the Steps of an accepted trace add to counts of 512 bytes; any other number leaves them. */
 uint32_t second_count(const uint8_t *trace, size_t trace_len,

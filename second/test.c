@@ -1,9 +1,10 @@
 /*
  * The worked cases of document 01, "Numbers to hold against it", a to l, and
- * cases of our own for No. 1, No. 2, No. 5 and No. 6 of document 02: each is
- * run and printed.  Exit status 1 if one differs.
+ * cases of our own for No. 1, No. 2, No. 5, No. 6 and No. 7 of document 02:
+ * each is run and printed.  Exit status 1 if one differs.
  *
- *     cc -std=c11 -Wall -Wextra -Werror -O2 -I../host step.c batch.c check.c count.c session.c test.c -o test && ./test
+ *     cc -std=c11 -Wall -Wextra -Werror -O2 -I../host step.c batch.c check.c count.c session.c record.c test.c -o test &&
+ *         ./test
  */
 #include "second.h"
 #include "words.h"
@@ -661,6 +662,156 @@ static void run_sessions(void)
     run_report_sizes();
 }
 
+/* No. 7: one Step, from a block without a known mode, for an event without a known code: every byte by hand. */
+static const struct pomurica_event UNKNOWN = { 0x04030201, 0x08070605, 0x0C0B0A09 };
+static const uint8_t ONE_STEP[START_LENGTH + STEP_LENGTH + END_LENGTH] = {
+    [0] = 0xB8, 0x00, 0x01, 0x00, 0x01, 0x00, 0x00, 0x00, /* n */
+    [8] = 0x11, [183] = 0x22,                             /* the block's first byte and its last */
+    [184] = 0xC8, 0x00, 0x02, 0x00, 0x01, 0x02, 0x03, 0x04, 0x05, 0x06, 0x07, 0x08, 0x09, 0x0A, 0x0B, 0x0C,
+    [200] = 0x02, 0x00, 0x00, 0x00, /* BAD_MODE, and the value 0 */
+    [208] = 0x11, [383] = 0x22,
+    [384] = 0x08, 0x00, 0x03, 0x00, 0x01, 0x00, 0x00, 0x00,
+};
+
+enum {
+    LISTED_LENGTH = START_LENGTH + LISTED * STEP_LENGTH + END_LENGTH,
+    MOST_LISTED = 65535,
+    MOST_LENGTH = START_LENGTH + MOST_LISTED * STEP_LENGTH + END_LENGTH,
+    ROOM = LISTED_LENGTH + 1000, /* bytes of a buffer, more than either list needs */
+    OLD_BYTE = 0xAA              /* what they are before a recording */
+};
+
+/* No. 7: whether the bytes are as they were before the recording. */
+static bool are_old(const uint8_t *bytes, size_t length)
+{
+    for (size_t i = 0; i < length; i++) {
+        if (bytes[i] != OLD_BYTE)
+            return false;
+    }
+    return true;
+}
+
+/* No. 7: "accepted by the checker with Steps equal to n", and the place is the length. */
+static bool is_accepted(const uint8_t *trace, size_t length, uint32_t n)
+{
+    uint8_t report[REPORT_SIZE];
+
+    return second_check(trace, length, report, sizeof report) == DONE && is_report(report, DONE, (uint32_t)length, n);
+}
+
+/* No. 7: a list from a block, into a buffer with such room behind the offset, becomes the trace; bytes around it stay. */
+static void run_written(const char *name, const uint8_t *block, const struct pomurica_event *events, uint32_t n,
+                        size_t offset, size_t room, const uint8_t *trace)
+{
+    const size_t length = START_LENGTH + n * STEP_LENGTH + END_LENGTH;
+    uint8_t before[BLOCK_SIZE], buffer[ROOM];
+    uint32_t number;
+    bool right;
+
+    memset(buffer, OLD_BYTE, sizeof buffer);
+    memcpy(before, block, sizeof before);
+    number = second_record(block, BLOCK_SIZE, events, n, buffer, offset + room, offset);
+    right = number == DONE && memcmp(buffer + offset, trace, length) == 0 && is_accepted(buffer + offset, length, n);
+    right = right && are_old(buffer, offset) && are_old(buffer + offset + length, sizeof buffer - offset - length);
+    printf("%-12s  number %u, %u bytes from %u", name, (unsigned)number, (unsigned)length, (unsigned)offset);
+    tell(right && memcmp(block, before, sizeof before) == 0);
+}
+
+/* No. 7: whether the Steps show the list of No. 2, and what single steps answer; the block after the last is theirs. */
+static bool shows_list(const uint8_t *trace)
+{
+    const uint8_t *step = trace + START_LENGTH;
+    bool right = true;
+
+    for (size_t i = 0; i < LISTED; i++, step += STEP_LENGTH) {
+        right = right && get_word(step + STEP_CODE) == EVENTS[i].code && get_word(step + STEP_A) == EVENTS[i].a &&
+                get_word(step + STEP_B) == EVENTS[i].b && get_word(step + STEP_ANSWER) == ANSWERS[i].number &&
+                get_word(step + STEP_VALUE) == ANSWERS[i].value;
+    }
+    for (size_t i = 0; i < sizeof AFTER / sizeof AFTER[0]; i++)
+        right = right && get_word(step - BLOCK_SIZE + 4 * AFTER[i].place) == AFTER[i].word;
+    return right;
+}
+
+/* No. 7: the list of No. 2, in a buffer of its trace's size, and in the middle of larger ones. */
+static void run_listed(void)
+{
+    uint8_t block[BLOCK_SIZE], trace[LISTED_LENGTH];
+    uint32_t number;
+
+    put_first_block(block, MODE_SUPERVISOR);
+    number = second_record(block, sizeof block, EVENTS, LISTED, trace, sizeof trace, 0);
+    printf("%-12s  number %u, answers of the batch", "record", (unsigned)number);
+    tell(number == DONE && memcmp(trace + START_BLOCK, block, sizeof block) == 0 && shows_list(trace) &&
+         is_accepted(trace, sizeof trace, LISTED));
+    run_written("from 1", block, EVENTS, LISTED, 1, LISTED_LENGTH, trace);
+    run_written("from 0, room", block, EVENTS, LISTED, 0, LISTED_LENGTH + 1, trace);
+    run_written("middle", block, EVENTS, LISTED, 333, LISTED_LENGTH + 500, trace);
+}
+
+/* No. 7: 65,535 events and one more, all of code 0, which no rule knows; a buffer in which the trace of them all would fit. */
+static struct pomurica_event many[MOST_LISTED + 1];
+static uint8_t vast[MOST_LENGTH + STEP_LENGTH];
+
+/* No. 7: "A refusal changes no byte." */
+static void run_refused(const char *name, size_t block_len, size_t events_len, size_t buffer_len, size_t offset,
+                        uint32_t number)
+{
+    uint8_t block[BLOCK_SIZE + 1] = { 0 }, before[BLOCK_SIZE + 1] = { 0 };
+    uint32_t returned;
+
+    put_first_block(block, MODE_SUPERVISOR);
+    put_first_block(before, MODE_SUPERVISOR);
+    memset(vast, OLD_BYTE, sizeof vast);
+    returned = second_record(block, block_len, many, events_len, buffer_len == 0 ? NULL : vast, buffer_len, offset);
+    printf("%-12s  number %u", name, (unsigned)returned);
+    tell(returned == number && are_old(vast, sizeof vast) && memcmp(block, before, sizeof block) == 0);
+}
+
+/* No. 7: "Checks in order": the first that refuses gives the number, also where one behind it would refuse. */
+static void run_refusals(void)
+{
+    run_refused("block 175", BLOCK_SIZE - 1, 0, ROOM, 0, BAD_SIZE);
+    run_refused("block 177", BLOCK_SIZE + 1, 0, ROOM, 0, BAD_SIZE);
+    run_refused("all three", BLOCK_SIZE - 1, MOST_LISTED + 1, 0, 1, BAD_SIZE);
+    run_refused("65536", BLOCK_SIZE, MOST_LISTED + 1, sizeof vast, 0, BAD_COUNT);
+    run_refused("65536, none", BLOCK_SIZE, MOST_LISTED + 1, 0, 1, BAD_COUNT);
+    run_refused("65535, short", BLOCK_SIZE, MOST_LISTED, MOST_LENGTH - 1, 0, NO_ROOM);
+    run_refused("no buffer", BLOCK_SIZE, 0, 0, 0, NO_ROOM);
+    run_refused("191 bytes", BLOCK_SIZE, 0, 191, 0, NO_ROOM);
+    run_refused("191 behind", BLOCK_SIZE, 0, 192, 1, NO_ROOM);
+    run_refused("391 behind", BLOCK_SIZE, 1, 500 + 391, 500, NO_ROOM);
+    run_refused("at the end", BLOCK_SIZE, 0, ROOM, ROOM, NO_ROOM);
+    run_refused("past the end", BLOCK_SIZE, 0, ROOM, ROOM + 1, NO_ROOM);
+    run_refused("sum wraps", BLOCK_SIZE, 0, ROOM, SIZE_MAX - 191, NO_ROOM);
+    run_refused("last offset", BLOCK_SIZE, 0, ROOM, SIZE_MAX, NO_ROOM);
+}
+
+/* No. 7: "over 65,535 events" are too many; 65,535 are not. */
+static void run_most(void)
+{
+    uint8_t block[BLOCK_SIZE];
+    uint32_t number;
+
+    put_first_block(block, MODE_SUPERVISOR);
+    memset(vast, OLD_BYTE, sizeof vast);
+    number = second_record(block, sizeof block, many, MOST_LISTED, vast, MOST_LENGTH + 1, 1);
+    printf("%-12s  number %u, %u bytes from 1", "65535", (unsigned)number, (unsigned)MOST_LENGTH);
+    tell(number == DONE && is_accepted(vast + 1, MOST_LENGTH, MOST_LISTED) && are_old(vast, 1) &&
+         are_old(vast + 1 + MOST_LENGTH, sizeof vast - 1 - MOST_LENGTH));
+}
+
+/* No. 7: the shortest trace is l, of an empty list. */
+static void run_recordings(void)
+{
+    run_written("record, none", SHORTEST + START_BLOCK, NULL, 0, 0, sizeof SHORTEST, SHORTEST);
+    run_written("none, from 7", SHORTEST + START_BLOCK, NULL, 0, 7, ROOM - 7, SHORTEST);
+    run_written("record, one", ONE_STEP + START_BLOCK, &UNKNOWN, 1, 0, sizeof ONE_STEP, ONE_STEP);
+    run_listed();
+    run_refusals();
+    run_most();
+}
+
 int main(void)
 {
     for (size_t i = 0; i < CASE_COUNT; i++)
@@ -670,6 +821,7 @@ int main(void)
     run_batches();
     run_tge();
     run_sessions();
+    run_recordings();
     printf("%u passed, %u failed\n", run - differing, differing);
     return differing == 0 ? 0 : 1;
 }

@@ -1,7 +1,7 @@
 /*
  * The words of document 01: its names for places, modes, events, numbers, bits
- * and the parts of a record, and how a word lies in bytes.  No. 1 and No. 6 are
- * those of document 02.
+ * and the parts of a record, and how a word lies in bytes.  No. 1, No. 6 and
+ * No. 7 are those of document 02.
  */
 #ifndef WORDS_H
 #define WORDS_H
@@ -111,7 +111,7 @@ enum line_bits {
 
 /*
  * Answer numbers: 0 to 7 of a step; 0 and 8 to 12 of the checker (The trace); 13 and 15 of counts (No. 1); 14 of a feeding
- * (No. 6).
+ * (No. 6); 0, 1, 10 and 15 of the recorder (No. 7).
  */
 enum number {
     DONE = 0,
@@ -174,13 +174,18 @@ static inline uint32_t get_word(const uint8_t *bytes)
     return get_half(bytes) | get_half(bytes + 2) << 16;
 }
 
+/* The trace: two bytes, little-endian, of a number that they can hold. */
+static inline void put_half(uint8_t *bytes, uint32_t half)
+{
+    bytes[0] = (uint8_t)(half & 0xFF);
+    bytes[1] = (uint8_t)(half >> 8 & 0xFF);
+}
+
 /* The state block: a word as four bytes, little-endian. */
 static inline void put_word(uint8_t *bytes, uint32_t word)
 {
-    bytes[0] = (uint8_t)(word & 0xFF);
-    bytes[1] = (uint8_t)(word >> 8 & 0xFF);
-    bytes[2] = (uint8_t)(word >> 16 & 0xFF);
-    bytes[3] = (uint8_t)(word >> 24 & 0xFF);
+    put_half(bytes, word & 0xFFFF);
+    put_half(bytes + 2, word >> 16);
 }
 
 #endif

@@ -4,7 +4,7 @@
  * that are not good, and each kind of wrong length.  Guards stand around both
  * lists and the block (lists.h).
  */
-#include "edge.h"
+#include "events.h"
 #include "group.h"
 #include "lists.h"
 #include "pomurica.h"
@@ -202,7 +202,7 @@ int main(void)
 {
     static const size_t LENGTHS[] = { 0, 1, 2, 3, WORKED_LEN, LONG_LIST };
 
-    open_edge((LIST_GUARDS + LIST_MOST) * sizeof(struct pomurica_event));
+    open_events(LIST_MOST);
     group("a worked list: done and refused events of every kind");
     do_worked();
     group("lists of 0, 1, 2 and more events to 1,000, as single steps");

@@ -10,7 +10,7 @@
  * each thing was met and fails where one was met too seldom.
  */
 #include "any_list.h"
-#include "edge.h"
+#include "events.h"
 #include "group.h"
 #include "question.h"
 
@@ -239,7 +239,7 @@ int main(int argc, char **argv)
     const unsigned long thousands = argc > 1 ? strtoul(argv[1], NULL, 10) : THOUSANDS;
     struct chance chance = { argc > 2 ? strtoull(argv[2], NULL, 10) : SEED };
 
-    open_edge((LIST_GUARDS + LIST_MOST) * sizeof(struct pomurica_event));
+    open_events(LIST_MOST);
     printf("%lu thousand lists, seed %" PRIu64 "\n", thousands, chance.seed);
     group("lists of chance, side by side, by single steps, and cut in two");
     compare_random(&chance, thousands * 1000);

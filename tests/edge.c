@@ -12,7 +12,7 @@
 
 static uint8_t *edge;
 
-void open_edge(size_t most)
+uint8_t *open_room(size_t most)
 {
     const size_t room = (most + PAGE - 1) / PAGE * PAGE;
     uint8_t *pages = mmap(NULL, room + PAGE, PROT_READ | PROT_WRITE,
@@ -22,7 +22,12 @@ void open_edge(size_t most)
         perror("memory for traces");
         exit(2);
     }
-    edge = pages + room;
+    return pages + room;
+}
+
+void open_edge(size_t most)
+{
+    edge = open_room(most);
 }
 
 const uint8_t *lend_at_edge(const uint8_t *bytes, size_t length)

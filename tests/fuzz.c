@@ -106,6 +106,45 @@ static void check_arrival(const struct judged *judged)
     hold(judged->number != POMURICA_DONE || arrival.done.steps == done_steps(judged), "the done Steps are counted");
 }
 
+/* The events of the Steps that were found right. */
+static struct pomurica_event *take_events(const struct judged *judged)
+{
+    struct pomurica_event *const events = calloc(judged->steps + 1, sizeof *events);
+
+    hold(events != NULL, "there is memory for events");
+    for (uint32_t index = 0; index < judged->steps; index++) {
+        const uint8_t *const step = judged->trace + step_place(index);
+
+        events[index].code = pomurica_get_word(step, POMURICA_STEP_CODE);
+        events[index].a = pomurica_get_word(step, POMURICA_STEP_A);
+        events[index].b = pomurica_get_word(step, POMURICA_STEP_B);
+    }
+    return events;
+}
+
+/* Those events, recorded from the start block, give those Steps again, and an accepted trace to its last byte. */
+static void check_recorded(const struct judged *judged)
+{
+    const size_t size = POMURICA_TRACE_SIZE(judged->steps), block_at = 4 * POMURICA_START_BLOCK;
+    struct pomurica_event *events;
+    uint32_t number;
+    uint8_t *again;
+
+    if (judged->place == 0) /* without a Start there is no block */
+        return;
+    events = take_events(judged);
+    again = malloc(size);
+    hold(again != NULL, "there is memory for a trace");
+    number = pomurica_record(judged->trace + block_at, POMURICA_BLOCK_SIZE, events, judged->steps, again, size, 0);
+    hold(number == POMURICA_DONE, "right Steps can be recorded");
+    hold(memcmp(again + block_at, judged->trace + block_at, step_place(judged->steps) - block_at) == 0,
+         "right Steps are recorded as they are");
+    hold(judged->number != POMURICA_DONE || memcmp(again, judged->trace, size) == 0,
+         "an accepted trace is the recorded one");
+    free(again);
+    free(events);
+}
+
 static uint32_t word_found(const uint8_t *step, uint32_t part)
 {
     return pomurica_get_word(step, POMURICA_STEP_NUMBER + part - POMURICA_PART_NUMBER);
@@ -319,6 +358,7 @@ int LLVMFuzzerTestOneInput(const uint8_t *data, size_t size)
     judged.trace = trace;
     check_report(&judged);
     check_arrival(&judged);
+    check_recorded(&judged);
     check_explanation(&judged);
     check_steps(&judged);
     check_page(&judged);

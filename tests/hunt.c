@@ -2,9 +2,9 @@
  * A mutant of the second implementation against the second implementation, on
  * the questions and traces that the comparisons use, up to the first
  * difference: so many steps, so many lists of events, so many traces to judge,
- * so many to count, and so many sessions.
+ * so many to count, so many sessions, and so many lists to record.
  *
- *     hunt STEPS LISTS TRACES COUNTED SESSIONS SEED
+ *     hunt STEPS LISTS TRACES COUNTED SESSIONS RECORDED SEED
  *
  * Status 0: no difference was found; 3: one was.  A mutant that does not come
  * to an end, or does what no step may, is ended by a signal.
@@ -12,6 +12,7 @@
 #define _POSIX_C_SOURCE 200809L
 
 #include "any_list.h"
+#include "any_recording.h"
 #include "any_session.h"
 #include "counting.h"
 #include "edge.h"
@@ -40,6 +41,7 @@ lines_function mutant_count_lines;
 open_function mutant_open;
 feed_function mutant_feed;
 close_function mutant_close;
+record_function mutant_record;
 
 enum {
     FOUND = 3,
@@ -48,8 +50,10 @@ enum {
     A_FEW_LISTS = 64,
     A_FEW_TRACES = 64,
     A_FEW_SESSIONS = 64,
+    A_FEW_RECORDINGS = 64,
     MOST_STEPS = 65535,
-    LONGEST = START_SIZE + MOST_STEPS * STEP_SIZE + END_SIZE
+    LONGEST = START_SIZE + MOST_STEPS * STEP_SIZE + END_SIZE,
+    LONGEST_BUFFER = GUARD_SIZE + LONGEST + STEP_SIZE
 };
 
 static bool do_steps_differ(struct chance *chance, unsigned long steps)
@@ -285,13 +289,51 @@ static bool do_sessions_differ(struct chance *chance, unsigned long sessions)
     return false;
 }
 
+/* The rooms for buffers of both sides. */
+static struct recorded our_recorded, their_recorded;
+
+static bool do_records_differ(const struct recording *asked)
+{
+    call_record(second_record, asked, &our_recorded);
+    call_record(mutant_record, asked, &their_recorded);
+    return record_difference(&our_recorded, &their_recorded) != NULL;
+}
+
+static bool do_recordings_differ(struct chance *chance, unsigned long recordings)
+{
+    static struct recording asked;
+
+    for (unsigned long i = 0; i < recordings; i++) {
+        if (i % A_FEW_RECORDINGS == 0)
+            alarm(PATIENCE);
+        any_recording(chance, &asked);
+        if (do_records_differ(&asked))
+            return true;
+    }
+    return false;
+}
+
+/* The most events, and one more, with room for them. */
+static bool do_longest_records_differ(struct chance *chance)
+{
+    static struct recording asked;
+
+    alarm(10 * PATIENCE);
+    for (size_t count = MOST_STEPS; count <= MOST_STEPS + 1; count++) {
+        any_long_recording(chance, count, GUARD_SIZE, &asked);
+        if (do_records_differ(&asked))
+            return true;
+    }
+    return false;
+}
+
 int main(int argc, char **argv)
 {
     struct chance chance;
-    unsigned long steps, lists, traces, counted, sessions;
+    unsigned long steps, lists, traces, counted, sessions, recorded;
 
-    if (argc != 7) {
-        fprintf(stderr, "usage: hunt STEPS LISTS TRACES COUNTED SESSIONS SEED\n");
+    if (argc != 8) {
+        fprintf(stderr, "usage: hunt STEPS LISTS TRACES COUNTED SESSIONS RECORDED SEED\n");
         return 2;
     }
     steps = strtoul(argv[1], NULL, 10);
@@ -299,10 +341,16 @@ int main(int argc, char **argv)
     traces = strtoul(argv[3], NULL, 10);
     counted = strtoul(argv[4], NULL, 10);
     sessions = strtoul(argv[5], NULL, 10);
-    chance.seed = strtoull(argv[6], NULL, 10);
+    recorded = strtoul(argv[6], NULL, 10);
+    chance.seed = strtoull(argv[7], NULL, 10);
     open_edge(LONGEST);
+    open_recorded(&our_recorded, LONGEST_BUFFER);
+    open_recorded(&their_recorded, LONGEST_BUFFER);
     if (do_steps_differ(&chance, steps) || do_lists_differ(&chance, lists) || do_traces_differ(&chance, traces) ||
-        does_counting_differ(&chance, counted) || do_sessions_differ(&chance, sessions))
+        does_counting_differ(&chance, counted) || do_sessions_differ(&chance, sessions) ||
+        do_recordings_differ(&chance, recorded))
+        return FOUND;
+    if (recorded != 0 && do_longest_records_differ(&chance))
         return FOUND;
     return traces != 0 && does_longest_differ(&chance) ? FOUND : 0;
 }

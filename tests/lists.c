@@ -1,6 +1,6 @@
 #include "lists.h"
 
-#include "edge.h"
+#include "events.h"
 
 #include <string.h>
 
@@ -12,24 +12,6 @@ static bool are_guards(const void *elements, size_t size)
     const uint8_t *const bytes = elements;
 
     return bytes[0] == GUARD_BYTE && memcmp(bytes, bytes + 1, size - 1) == 0;
-}
-
-/* ----------------------------------------------------------- The events */
-
-/* The events behind their guard elements, as they are lent. */
-static struct pomurica_event guarded[LIST_GUARDS + LIST_MOST];
-
-static size_t guarded_size(const struct list *list)
-{
-    return (LIST_GUARDS + list->events_len) * sizeof guarded[0];
-}
-
-/* Lends the guard elements and the events; gives where the guards begin. */
-static const struct pomurica_event *lend_events(const struct list *list)
-{
-    memset(guarded, GUARD_BYTE, LIST_GUARDS * sizeof guarded[0]);
-    memcpy(guarded + LIST_GUARDS, list->events, list->events_len * sizeof guarded[0]);
-    return (const struct pomurica_event *)lend_at_edge((const uint8_t *)guarded, guarded_size(list));
 }
 
 /* ---------------------------------------------------------- The answers */
@@ -54,14 +36,13 @@ static bool are_answers_guarded(const struct batched *batched)
 
 void call_batch(batch_function *batch, const struct list *list, struct batched *batched)
 {
-    const struct pomurica_event *events = lend_events(list);
+    const struct pomurica_event *events = lend_events(list->events, list->events_len);
     struct pomurica_answer *answers = lend_answers(batched, list->answers_len);
     uint8_t *block = lend(&batched->block, list->block, list->block_len, list->events_len % (MOST_SHIFT + 1));
 
-    batched->number = batch(events + LIST_GUARDS, list->events_len, answers, list->answers_len, block, list->block_len);
+    batched->number = batch(events, list->events_len, answers, list->answers_len, block, list->block_len);
     batched->guards_kept = take_back(&batched->block);
-    batched->guards_kept = batched->guards_kept && are_answers_guarded(batched) &&
-                           memcmp(events, guarded, guarded_size(list)) == 0;
+    batched->guards_kept = batched->guards_kept && are_answers_guarded(batched) && are_events_kept();
 }
 
 const struct pomurica_answer *answers_of(const struct batched *batched)

@@ -1,7 +1,7 @@
 /*
  * Lists of events to be done in one call, and that call: guard elements stand
  * before the events and around the answers, guard bytes around the block, and
- * behind the events nothing may even be read (edge.h, which is opened first).
+ * behind the events nothing may even be read (events.h, which is opened first).
  */
 #ifndef LISTS_H
 #define LISTS_H
@@ -16,7 +16,7 @@
 enum {
     LONG_LIST = 1000,
     LIST_MOST = LONG_LIST + 1, /* elements of either list, at most */
-    LIST_GUARDS = 8            /* guard elements on each side */
+    LIST_GUARDS = 8            /* guard elements on each side of the answers */
 };
 
 typedef uint32_t batch_function(const struct pomurica_event *, size_t, struct pomurica_answer *, size_t, uint8_t *, size_t);

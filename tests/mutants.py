@@ -10,6 +10,7 @@ SCRIPT = os.path.abspath(sys.argv[1])
 # Of the batch: an answer too many, more events than answers, an event left out.
 # Of the counts: a code too few, refused Steps counted as done, a sum that just fits, room that just does.
 # Of a session: the most Steps refused, a byte too many held, a head judged too often, a block kept, a feeding after closing.
+# Of a recording: the most events refused, room that just does, bytes before the offset as room, no end of the buffer, no kind.
 KILLED = [
     *(f'LARGEST: [CODE_{code}] = {{ {a}, [[0 => 1]] }},' for code, a in [
         ('UNDEFINED', 0), ('SVC', 0), ('SMC', 0), ('HVC', 0), ('PREFETCH_ABORT', 3), ('DATA_ABORT', 3), ('HYP_TRAP', 0),
@@ -32,6 +33,11 @@ KILLED = [
     'take_byte: if (session->held [[== => >=]] HEADER_SIZE && !second_is_due(session->unfinished, due))',
     'keep_fault: [[memset(session->block, 0, sizeof session->block) => ]];',
     'second_feed: [[return CLOSED => ]];',
+    'second_record: if (events_len [[> => >=]] MOST_STEPS)',
+    'has_room: return buffer_len - offset [[>= => >]] length;',
+    'has_room: return buffer_len [[- => +]] offset >= length;',
+    'has_room: [[return false => ]];',
+    'write_header: [[put_half(bytes + 2, record.kind) => ]];',
 ]
 LIVING = 'LARGEST: [[[CODE_SVC => CODE_SMC]]] = { 0, 0 },'
 NO_MUTANT = 'is_one: return [[nothing => something]];'

@@ -6,10 +6,15 @@ import os
 import pty
 import re
 import select
+import signal
 import subprocess
 import sys
 import termios
 import time
+
+# A shell that runs a test in the background has it ignore the signals of the keyboard. What a test starts must not.
+for keyboard in (signal.SIGINT, signal.SIGQUIT):
+    signal.signal(keyboard, signal.SIG_DFL)
 
 PATIENCE = 60  # seconds, for what has to come and comes at once where nothing else runs
 

@@ -18,8 +18,8 @@ import tempfile
 import time
 
 ROOT = os.path.dirname(os.path.dirname(os.path.abspath(__file__)))
-COPIED = ['crates.txt', 'verdict', 'decisions', 'console', 'test', 'tools', 'host', 'bench', 'samples/make']
-SCRIPTS = ['verdict', 'decisions', 'console', 'test', 'tools/look', 'bench/run', 'samples/make']
+COPIED = ['crates.txt', 'verdict', 'decisions', 'console', 'record', 'test', 'tools', 'host', 'bench', 'samples/make']
+SCRIPTS = ['verdict', 'decisions', 'console', 'record', 'test', 'tools/look', 'bench/run', 'samples/make']
 TRACE = bytes(192)
 
 # hold WHO: where the test holds it, tells that it began and in which process, and waits until it is let go. It does so in the
@@ -220,22 +220,22 @@ def try_edits(place):
     place.expect('a program that is gone', place.run('verdict'), (0, 'three 0\n'))
 
 
-def try_console_edits(place):
-    names = place.run('sh', '-c', 'root=$1; . "$root/tools/kit.sh"; echo $console_sources', 'sh', place.root)[1]
+def try_program_edits(place, program):
+    names = place.run('sh', '-c', f'root=$1; . "$root/tools/kit.sh"; echo ${program}_sources', 'sh', place.root)[1]
     objects = ' '.join(name.replace('/', '-').replace('.c', '.o') for name in names.split())
     place.write('host/tell.c', 'old\n')
     place.hold('clang')
-    running = place.start('console')
+    running = place.start(program)
     place.wait_for_build()
     place.write('host/tell.c', 'new\n')
     place.release('clang')
     first = place.end(running)
-    place.expect('a console of every object', (first[0], first[1].split('; ')[0]), (0, objects))
-    place.expect('a source of the console edited while it is built', place.run('console'), (0, f'{objects}; new; one; 0\n'))
+    place.expect(f'a {program} of every object', (first[0], first[1].split('; ')[0]), (0, objects))
+    place.expect(f'a source of the {program} edited while it is built', place.run(program), (0, f'{objects}; new; one; 0\n'))
     place.expect('is built again, and nothing proved', place.calls(), ['rt staticlib console'])
-    made = os.stat(place.path('target/host/console'))
-    place.run('console')
-    place.expect('once', os.stat(place.path('target/host/console')), made)
+    made = os.stat(place.path(f'target/host/{program}'))
+    place.run(program)
+    place.expect('once', os.stat(place.path(f'target/host/{program}')), made)
 
 
 def try_paths(place):
@@ -254,8 +254,9 @@ def try_input(place):
     place.expect('a trace on standard input, while the verdict is built first', place.run('verdict', given=TRACE),
                  (0, 'one 192\n'))
     place.expect('-', place.run('verdict', '-', given=TRACE), (0, 'one 192\n'))
-    status, out = place.run('console', '-', given=TRACE)
-    place.expect('and while the console is', (status, out.split('; ')[-1]), (0, '192\n'))
+    for program in ('console', 'record'):
+        status, out = place.run(program, '-', given=TRACE)
+        place.expect(f'and while the {program} is', (status, out.split('; ')[-1]), (0, '192\n'))
 
 
 def try_output(place):
@@ -272,7 +273,7 @@ def try_output(place):
 
 def try_failures(place):
     refused = place.write('crates/refused', '')
-    for script in ('verdict', 'console'):
+    for script in ('verdict', 'console', 'record'):
         running = place.start(script)
         out, err = running.communicate(timeout=60)
         told = [b'refused', f'{script}: could not be built'.encode()]
@@ -317,7 +318,7 @@ def try_two(place, other):
     place.expect(f'./{other} waits for ./verdict', place.told(second, b'something else builds in'), True)
     place.release()
     ends = [place.end(first)[:2], place.end(second)[0]]
-    calls = ['rt check verdict'] + ['rt staticlib console'] * (other == 'console')
+    calls = ['rt check verdict'] + ['rt staticlib console'] * (other != 'verdict')
     place.expect(f'./{other} after ./verdict', (ends, place.calls()), ([(0, 'one 0\n'), 0], calls))
 
 
@@ -388,11 +389,11 @@ def try_kits(place):
 
 
 CASES = [
-    (try_edits,), (try_console_edits,), (try_paths,), (try_input,), (try_output,), (try_failures,),
-    *((try_signal, script, number) for script in ('verdict', 'console', 'test', 'bench/run')
+    (try_edits,), (try_program_edits, 'console'), (try_program_edits, 'record'), (try_paths,), (try_input,), (try_output,), (try_failures,),
+    *((try_signal, script, number) for script in ('verdict', 'console', 'record', 'test', 'bench/run')
       for number in (signal.SIGINT, signal.SIGTERM, signal.SIGHUP)),
-    *((try_signal, script, signal.SIGINT, True) for script in ('verdict', 'console', 'test', 'bench/run')),
-    (try_two, 'verdict'), (try_two, 'console'), (try_under_lock,), (try_killed,), (try_beside_test,), (try_kits,)]
+    *((try_signal, script, signal.SIGINT, True) for script in ('verdict', 'console', 'record', 'test', 'bench/run')),
+    (try_two, 'verdict'), (try_two, 'console'), (try_two, 'record'), (try_under_lock,), (try_killed,), (try_beside_test,), (try_kits,)]
 
 
 def outcome_of(case):

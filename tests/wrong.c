@@ -1,6 +1,6 @@
 /*
- * A step, a batch, a checker, a count and a session that are always wrong, to
- * see what a comparison says of them.
+ * A step, a batch, a checker, a count, a session and a recorder that are always
+ * wrong, to see what a comparison says of them.
  */
 #include "pomurica.h"
 
@@ -63,5 +63,13 @@ uint32_t wrong_feed(struct pomurica_session *session, const uint8_t *bytes, size
 uint32_t wrong_close(struct pomurica_session *session, uint8_t *report, size_t report_len)
 {
     (void)session, (void)report, (void)report_len;
+    return NO_NUMBER;
+}
+
+uint32_t wrong_record(const uint8_t *block, size_t block_len,
+                      const struct pomurica_event *events, size_t events_len,
+                      uint8_t *buffer, size_t buffer_len, size_t offset)
+{
+    (void)block, (void)block_len, (void)events, (void)events_len, (void)buffer, (void)buffer_len, (void)offset;
     return NO_NUMBER;
 }

@@ -28,12 +28,17 @@ verdict=$root/target/bin/verdict
 decisions=$root/target/bin/decisions
 built=$root/target/host
 
-# The console program, which both ./console and ./test build; of its files, those of the page, those that find words and
-# pictures for a trace, and those that read files.
+# The console and the record program, which their scripts and ./test build; of their files, those of the page, those that find
+# words and pictures for a trace, those that read files and those that print.
 page_sources='host/page.c host/timeline.c host/picture.c host/columns.c host/listing.c host/count.c'
-telling_sources="host/tell.c $page_sources host/name.c host/status.c host/phrases.c host/done.c"
-reading_sources='host/totals.c host/input.c host/line.c'
-console_sources="host/console.c host/judge.c host/arrival.c $reading_sources host/progress.c host/complain.c $telling_sources"
+wording_sources='host/tell.c host/name.c host/status.c host/phrases.c host/done.c'
+telling_sources="$wording_sources $page_sources"
+reading_sources='host/input.c host/line.c'
+printing_sources='host/output.c host/complain.c'
+console_sources="host/console.c host/judge.c host/arrival.c host/totals.c host/progress.c"
+console_sources="$console_sources $reading_sources $printing_sources $telling_sources"
+record_sources="host/recorder.c host/script.c host/token.c host/vocabulary.c"
+record_sources="$record_sources $reading_sources $printing_sources $wording_sources"
 
 emulator=
 [ ! -x "$tools/bin/qemu-x86_64" ] || emulator=$tools/bin/qemu-x86_64
@@ -138,6 +143,7 @@ about() {
     verdict) product=$verdict sources='crates.txt crates' ;;
     decisions) product=$decisions sources='crates.txt crates' ;;
     console) product=$built/console sources='crates.txt crates host tools/kit.sh' ;;
+    record) product=$built/record sources='crates.txt crates host tools/kit.sh' ;;
     esac
 }
 
@@ -155,6 +161,9 @@ decisions_anew() { program_anew decisions; }
 
 # shellcheck disable=SC2086 # a list of words
 console_anew() { make archive && build console $console_sources; }
+
+# shellcheck disable=SC2086 # a list of words
+record_anew() { make archive && build record $record_sources; }
 
 # is_fresh NAME: whether it was made, and no source changed since its making began. By the time at which a file's status
 # changed, folders too: so a file that is gone counts, and an older one that is put in its place.

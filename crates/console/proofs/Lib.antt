@@ -6,3 +6,4 @@ pub mod Batches
 pub mod Walking
 pub mod Lending
 pub mod Sessions
+pub mod References

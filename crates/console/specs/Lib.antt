@@ -2,5 +2,6 @@ pub mod Batch
 pub mod Check
 pub mod Count
 pub mod Explain
+pub mod Reference
 pub mod Session
 pub mod Theorems

@@ -3,9 +3,9 @@
 //
 // `step`, `replay` and `advance` are the same step. There are three because the compiler makes a function that is called from
 // one place part of that place: with one, all twelve events would share a single body, and every step would save and restore
-// the registers of the dearest (docs/DECISIONS.md, "Shape"). `step` is C's, `replay` the checker's and the explanation's,
-// `advance` that of a list of events. The sizes are tested in the same function for its sake too: behind so many tests the
-// compiler makes no event part of the dispatch.
+// the registers of the dearest (docs/DECISIONS.md, "Shape"). `step` is C's, `replay` that of the
+// checker, the explanation and the recorder, `advance` that of a batch. The sizes are tested in the same function for its sake
+// too: behind so many tests the compiler makes no event part of the dispatch.
 ghost use mathlib.Core.Path.{_≡_};
 ghost use Prim.Native.Nat.{_<_, _^_};
 ghost use lib.ListN.{length};

@@ -1,0 +1,78 @@
+#!/usr/bin/env python3
+"""damage.py SAMPLES: tries samples/damage as a user does.
+
+What it refuses, and that every kind which --help lists makes a sample: ./test makes those again and holds each byte. Ends with
+`N passed, M failed`.
+"""
+import os
+import re
+import sys
+
+sys.dont_write_bytecode = True
+from runs import Runs, read  # noqa: E402
+
+SAMPLES = os.path.abspath(sys.argv[1])
+HONEST = read(os.path.join(SAMPLES, 'honest.trace'))
+runs = Runs([os.path.join(SAMPLES, 'damage')])
+expect = runs.expect
+
+# Arguments that are none, on a trace of 1,992 bytes with 9 Steps, and what is told of them.
+MISUSED = [
+    ([], 'no kind; --help lists them'),
+    (['rot'], "no kind 'rot'; --help lists them"),
+    (['--help', 'cut'], "no kind '--help'; --help lists them"),
+    (['cut'], 'cut takes LENGTH'),
+    (['cut', '1', '2'], 'cut takes LENGTH'),
+    (['cut', '1993'], 'the trace has 1992 bytes, and not 1993'),
+    (['cut', '-1'], '-1 is below 0'),
+    (['cut', 'x'], "'x' is no number"),
+    (['add', '1', 'CPSR', ''], "'' is no number"),
+    (['skip', '0'], 'no Step 0: the trace has 9'),
+    (['undone', '10'], 'no Step 10: the trace has 9'),
+    (['stale', '1'], 'stale takes STEP PLACE'),
+    (['stale', '1', 'SPSR'], "no place 'SPSR' in the block"),
+    (['stale', '1', 'S'], "no place 'S' in the block"),
+    (['flip', '1', 'CPSR', '32'], 'no bit 32 in a word'),
+    (['rubbish', '-1'], '-1 is below 0'),
+]
+
+
+def damage(*arguments, given=HONEST, **options):
+    return runs.run(*arguments, stdin=None, input=given, **options)
+
+
+def try_misuse():
+    for arguments, told in MISUSED:
+        seen = damage(*arguments)
+        expect(f'damage {" ".join(arguments)}', seen == (2, b'', f'damage: {told}\n'.encode()), seen)
+    for name, given in {'empty': b'', 'cut': HONEST[:-1], 'trailing': HONEST + b'x', 'zeros': bytes(1992)}.items():
+        due = f'damage: standard input, of {len(given)} bytes, is no whole trace\n'.encode()
+        seen = damage('skip', '1', given=given)
+        expect(f'no whole trace: {name}', seen == (2, b'', due), seen)
+    with open('/dev/full', 'wb') as full:
+        seen = damage('skip', '1', stdout=full)
+    expect('a full disk', seen[::2] == (2, b'damage: [Errno 28] No space left on device\n'), seen)
+    for name, closes in (('input', lambda: os.close(0)), ('output', lambda: os.close(1))):
+        seen = damage('skip', '1', preexec_fn=closes)
+        expect(f'a closed {name}', seen[0] == 2 and re.match(rb'damage: .*Bad file descriptor', seen[2]) is not None, seen)
+
+
+def try_kinds():
+    status, out, told = damage('--help')
+    listed = set(re.findall(rb'^  ([a-z-]+) [A-Z]', out, re.M))
+    expect('--help', (status, told) == (0, b'') and out.startswith(b'usage: damage '), (status, told))
+    rows = re.findall(r'^\| \S+\.trace \|.*', read(os.path.join(SAMPLES, 'README.md')).decode(), re.M)
+    used = {row.split('|')[4].split()[0].encode() for row in rows if row.split('|')[4].strip()}
+    expect(f'every kind makes a sample: {len(listed)}', listed == used and len(used) > 8, (listed, used))
+    scripts = {row.split('|')[3].strip() for row in rows} - {''}
+    there = {name for name in os.listdir(SAMPLES) if name.endswith('.script')}
+    expect('every script makes a sample', scripts == there, (scripts, there))
+    flipped = damage('flip', '3', 'PC', '0')[1]
+    expect('a bit that is turned over twice', damage('flip', '3', 'PC', '0', given=flipped) == (0, HONEST, b''))
+    expect('a sum wraps', damage('add', '1', 'R8_usr', '0x100000000') == (0, HONEST, b''))
+    expect('a cut of nothing, and of everything', (damage('cut', '0')[1], damage('cut', '1992')[1]) == (b'', HONEST))
+
+
+try_misuse()
+try_kinds()
+runs.end()
