@@ -6,6 +6,7 @@
  *     check_loop count WHO FILE   judges it once; WHO: nothing, ours, c, memcmp, bytes
  *     check_loop time WHO FILE    prints nanoseconds a Step
  */
+#include "enabled.h"
 #include "prepared.h"
 #include "same.h"
 #include "speed.h"
@@ -89,6 +90,7 @@ static bool find_event(struct chance *chance, uint32_t code, bool wanted, struct
         choose_event(chance, code, wanted, step);
         if (code == CODE_NOTE && one_in(chance, 2))
             move_on(chance, step);
+        keep_calls(&step->event);
         if (is_done(step, record + BLOCK_AT, record + ANSWER_AT) == wanted)
             return true;
     }
@@ -133,6 +135,7 @@ static void record(void)
     struct step_case step;
 
     good_block(&chance, step.block);
+    enable_calls(step.block);
     put_head(trace, POMURICA_START_SIZE, 1);
     put_word(trace + 4, STEPS);
     memcpy(trace + 8, step.block, BLOCK_SIZE);

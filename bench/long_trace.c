@@ -1,5 +1,7 @@
 #include "long_trace.h"
 
+#include "enabled.h"
+
 #include "../second/second.h"
 #include "../second/words.h"
 #include "../tests/chance.h"
@@ -25,12 +27,14 @@ size_t record_long_trace(uint32_t steps, bool right)
     uint8_t block[BLOCK_SIZE], *at = long_trace + POMURICA_START_SIZE;
 
     good_block(&chance, block);
+    enable_calls(block);
     pomurica_put_word(long_trace, POMURICA_RECORD_HEAD, POMURICA_START_HEAD);
     pomurica_put_word(long_trace, POMURICA_RECORD_COUNT, steps);
     memcpy(long_trace + 4 * POMURICA_START_BLOCK, block, BLOCK_SIZE);
     for (uint32_t i = 0; i < steps; i++, at += POMURICA_STEP_SIZE) {
-        const struct event event = event_of(&chance, 1 + i % CODE_NOTE, block);
+        struct event event = event_of(&chance, 1 + i % CODE_NOTE, block);
 
+        keep_calls(&event);
         record_step(&event, block, at);
     }
     if (!right)

@@ -28,7 +28,7 @@
 
 enum {
     MODE = 0x1F, T = 1 << 5, F = 1 << 6, I = 1 << 7, A = 1 << 8, E = 1 << 9, ZERO_IN_CPSR = 0xF << 21,
-    NS = 1 << 0, SCR_IRQ = 1 << 1, SCR_FIQ = 1 << 2, EA = 1 << 3, FW = 1 << 4, AW = 1 << 5,
+    NS = 1 << 0, SCR_IRQ = 1 << 1, SCR_FIQ = 1 << 2, EA = 1 << 3, FW = 1 << 4, AW = 1 << 5, SCD = 1 << 7, HCE = 1 << 8,
     FMO = 1 << 3, IMO = 1 << 4, AMO = 1 << 5, VF = 1 << 6, VI = 1 << 7, VA = 1 << 8,
     TSC = 1 << 19, TGE = 1 << 27,
     V = 1 << 13
@@ -346,6 +346,8 @@ EVENT(smc)
         REFUSE(POMURICA_NOT_HERE);
     if ((get(block, POMURICA_PLACE_HCR) & TSC) && state.ns && is_in(state.mode, EL1))
         DONE_WITH(enter_hyp(&state, 0, 0x14, PC));
+    if (scr & SCD)
+        REFUSE(POMURICA_DISABLED);
     DONE_WITH(enter_monitor(&state, 0, 0x08, PC + 4));
 }
 
@@ -357,6 +359,8 @@ EVENT(hvc)
         REFUSE(POMURICA_BAD_EVENT);
     if (!state.ns || is_in(state.mode, USER | MONITOR))
         REFUSE(POMURICA_NOT_HERE);
+    if (!(scr & HCE))
+        REFUSE(POMURICA_DISABLED);
     DONE_WITH(enter_hyp_own(&state, 0, 0x08, PC + 4));
 }
 

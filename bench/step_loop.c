@@ -5,6 +5,7 @@
  *     step_loop count WHO FILE      runs them once; WHO: nothing, ours, c
  *     step_loop time WHO FILE       prints nanoseconds a step
  */
+#include "enabled.h"
 #include "prepared.h"
 #include "speed.h"
 
@@ -43,6 +44,8 @@ static void prepare_case(struct chance *chance, uint32_t code, struct step_case 
 
     do {
         good_block(chance, made->block);
+        if (wanted)
+            enable_calls(made->block);
         choose_event(chance, code, wanted, made);
     } while (is_done(made, after, answer) != wanted);
 }

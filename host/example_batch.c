@@ -7,10 +7,10 @@
 
 int main(void)
 {
-    /* A core in Non-secure Supervisor mode, at address 0x8000. */
+    /* A core in Non-secure Supervisor mode, at address 0x8000, that may call HVC. */
     uint8_t block[POMURICA_BLOCK_SIZE] = { 0 };
     pomurica_put_word(block, POMURICA_PLACE_CPSR, POMURICA_MODE_SUPERVISOR);
-    pomurica_put_word(block, POMURICA_PLACE_SCR, POMURICA_SCR_NS);
+    pomurica_put_word(block, POMURICA_PLACE_SCR, POMURICA_SCR_NS | POMURICA_SCR_HCE);
     pomurica_put_word(block, POMURICA_PLACE_PC, 0x8000);
 
     /* An IRQ waits; code 13 is none, and is refused; the block goes on from where the IRQ led. */

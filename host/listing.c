@@ -110,8 +110,8 @@ static void list_wrong_step(FILE *out, const uint8_t *step, uint32_t index)
     fprintf(out, "<details id=\"s%" PRIu32 "\" class=\"wrong\" open>", index + 1);
     begin_line(out, step, index);
     fputs("<span><b>WRONG</b>; the rules give: ", out);
-    tell_outcome(out, pomurica_get_word(step, POMURICA_STEP_CODE), pomurica_get_word(due.answer, 0),
-                 pomurica_get_word(due.answer, 1));
+    tell_outcome(out, step, pomurica_get_word(due.answer, POMURICA_ANSWER_NUMBER),
+                 pomurica_get_word(due.answer, POMURICA_ANSWER_VALUE));
     fputs("</span></summary>", out);
     list_event(out, step);
     list_dues(out, step, &due);
@@ -136,7 +136,7 @@ static void list_step(FILE *out, const uint8_t *step, uint32_t index, bool judge
     fprintf(out, "<details id=\"s%" PRIu32 "\"%s>", index + 1, judged ? "" : " class=\"pale\"");
     begin_line(out, step, index);
     fprintf(out, "<span%s>", outcome_style(outcome_of(code, number, value)));
-    tell_outcome(out, code, number, value);
+    tell_outcome(out, step, number, value);
     fputs("</span></summary>", out);
     list_event(out, step);
     list_changes(out, step);

@@ -279,12 +279,35 @@ static void tell_entry(FILE *out, uint32_t value)
             mode_name(mode) == NULL ? "no" : mode_name(mode), value & 0xFF);
 }
 
-void tell_outcome(FILE *out, uint32_t code, uint32_t number, uint32_t value)
+/*
+ * Why a call is disabled, by the bit of SCR that says so before the Step; NULL
+ * where none does, as in a Step that nobody judged.
+ */
+static const char *why_disabled(const uint8_t *step)
 {
-    switch (outcome_of(code, number, value)) {
-    case OUTCOME_REFUSED:
-        fprintf(out, "refused with %" PRIu32 " %s", number, pomurica_number_name(number));
-        break;
+    const uint32_t code = pomurica_get_word(step, POMURICA_STEP_CODE);
+    const uint32_t scr = pomurica_get_word(block_before(step), POMURICA_PLACE_SCR);
+
+    if (code == POMURICA_EVENT_SMC && (scr & POMURICA_SCR_SCD) != 0)
+        return "SMC is disabled: SCR.SCD is 1";
+    if (code == POMURICA_EVENT_HVC && (scr & POMURICA_SCR_HCE) == 0)
+        return "HVC is disabled: SCR.HCE is 0";
+    return NULL;
+}
+
+static void tell_refusal(FILE *out, const uint8_t *step, uint32_t number)
+{
+    const char *const why = number == POMURICA_DISABLED ? why_disabled(step) : NULL;
+
+    fprintf(out, "refused with %" PRIu32 " %s", number, pomurica_number_name(number));
+    if (why != NULL)
+        fprintf(out, " (%s)", why);
+}
+
+void tell_outcome(FILE *out, const uint8_t *step, uint32_t number, uint32_t value)
+{
+    switch (outcome_of(pomurica_get_word(step, POMURICA_STEP_CODE), number, value)) {
+    case OUTCOME_REFUSED: tell_refusal(out, step, number); break;
     case OUTCOME_READ: fprintf(out, "reads 0x%08" PRIX32, value); break;
     case OUTCOME_WRITTEN: fputs("written", out); break;
     case OUTCOME_NOTHING_TAKEN: fputs("takes nothing", out); break;

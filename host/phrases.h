@@ -39,7 +39,11 @@ void tell_event_words(FILE *out, const uint8_t *step);
 /* The state of a block: "Non-secure Supervisor, masked I". */
 void tell_state(FILE *out, const uint8_t *block);
 
-/* What an answer says came of an event: "enters IRQ mode at 0x18". */
-void tell_outcome(FILE *out, uint32_t code, uint32_t number, uint32_t value);
+/*
+ * What an answer says came of the event of a Step: "enters IRQ mode at 0x18".
+ * Of a call that is disabled with the reason, by the block before the Step:
+ * "refused with 16 DISABLED (HVC is disabled: SCR.HCE is 0)".
+ */
+void tell_outcome(FILE *out, const uint8_t *step, uint32_t number, uint32_t value);
 
 #endif

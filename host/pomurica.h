@@ -94,11 +94,11 @@ enum pomurica_record_word {
     (POMURICA_START_SIZE + (size_t)(n) * POMURICA_STEP_SIZE + POMURICA_END_SIZE)
 
 /*
- * Answer numbers: 0 to 7 of a step; 0, 1 and 8 to 12 of the checker, of an
- * explanation and of a closing, and with 13 of a count; 0, 9 to 12 and 14 of a
- * feeding; 0, 1 and 15 of the lines of counts; 0, 1, 10 and 15 of a recording;
- * 0 and 1 of a batch; 0 of an opening.  (Of a session that was opened: in another one any number may stand
- * as its fault.)
+ * Answer numbers: 0 to 7 and 16 of a step; 0, 1 and 8 to 12 of the checker, of
+ * an explanation and of a closing, and with 13 of a count; 0, 9 to 12 and 14 of
+ * a feeding; 0, 1 and 15 of the lines of counts; 0, 1, 10 and 15 of a
+ * recording; 0 and 1 of a batch; 0 of an opening.  (Of a session that was
+ * opened: in another one any number may stand as its fault.)
  */
 enum pomurica_number {
     POMURICA_DONE = 0,        /* the step was done; the trace is accepted */
@@ -116,7 +116,8 @@ enum pomurica_number {
     POMURICA_TRAILING = 12,   /* bytes behind the End */
     POMURICA_FULL = 13,       /* counting: a count would pass 4,294,967,295; nothing was counted */
     POMURICA_CLOSED = 14,     /* feeding: the session was closed before; nothing was changed */
-    POMURICA_NO_ROOM = 15     /* the room is too small for what is to be written; nothing was written */
+    POMURICA_NO_ROOM = 15,    /* the room is too small for what is to be written; nothing was written */
+    POMURICA_DISABLED = 16    /* SMC with SCR.SCD 1, HVC with SCR.HCE 0: on the core Undefined, code 1 */
 };
 
 /*
@@ -126,8 +127,8 @@ enum pomurica_number {
 enum pomurica_code {
     POMURICA_EVENT_UNDEFINED = 1,
     POMURICA_EVENT_SVC = 2,
-    POMURICA_EVENT_SMC = 3,
-    POMURICA_EVENT_HVC = 4,
+    POMURICA_EVENT_SMC = 3, /* refused with POMURICA_DISABLED while SCR.SCD is 1, unless HCR.TSC traps it */
+    POMURICA_EVENT_HVC = 4, /* refused with POMURICA_DISABLED while SCR.HCE is 0 */
     POMURICA_EVENT_PREFETCH_ABORT = 5,  /* A: enum pomurica_abort, added up */
     POMURICA_EVENT_DATA_ABORT = 6,      /* A: enum pomurica_abort, added up */
     POMURICA_EVENT_HYP_TRAP = 7,
@@ -240,6 +241,8 @@ enum pomurica_place {
 #define POMURICA_SCR_EA (UINT32_C(1) << 3)
 #define POMURICA_SCR_FW (UINT32_C(1) << 4)
 #define POMURICA_SCR_AW (UINT32_C(1) << 5)
+#define POMURICA_SCR_SCD (UINT32_C(1) << 7) /* SMC is disabled */
+#define POMURICA_SCR_HCE (UINT32_C(1) << 8) /* HVC is enabled */
 
 #define POMURICA_HCR_FMO (UINT32_C(1) << 3)
 #define POMURICA_HCR_IMO (UINT32_C(1) << 4)
@@ -287,8 +290,10 @@ enum pomurica_told_word {
  *         one leaves every byte.
  * answer  8 bytes: the number, then the value, each a little-endian word.
  *
- * Returns the number, 0 to 7; the lowest that applies.  POMURICA_BAD_SIZE, if
- * block_len is not 176 or answer_len not 8, writes neither buffer.
+ * Returns the number, 0 to 7 or 16; the lowest that applies.  POMURICA_BAD_SIZE,
+ * if block_len is not 176 or answer_len not 8, writes neither buffer.
+ * POMURICA_DISABLED: the core finds such a call Undefined, so that a recorder
+ * has to send POMURICA_EVENT_UNDEFINED in its place.
  *
  * The value of a done step: an entry, which * 65536 + mode * 256 + offset of
  * the vector; an interrupt check that takes nothing, 0; a banked read, the
@@ -542,6 +547,7 @@ static inline const char *pomurica_number_name(uint32_t number)
     case POMURICA_FULL: return "FULL";
     case POMURICA_CLOSED: return "CLOSED";
     case POMURICA_NO_ROOM: return "NO_ROOM";
+    case POMURICA_DISABLED: return "DISABLED";
     default: return "UNKNOWN";
     }
 }

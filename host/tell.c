@@ -50,8 +50,8 @@ static void tell_wrong_step(FILE *out, const uint8_t *trace, const uint8_t *expl
     fputs("\n  it was in ", out);
     tell_state(out, block_before(step));
     fputs("\n  the rules give: ", out);
-    tell_outcome(out, pomurica_get_word(step, POMURICA_STEP_CODE), pomurica_get_word(due.answer, 0),
-                 pomurica_get_word(due.answer, 1));
+    tell_outcome(out, step, pomurica_get_word(due.answer, POMURICA_ANSWER_NUMBER),
+                 pomurica_get_word(due.answer, POMURICA_ANSWER_VALUE));
     fputc('\n', out);
     tell_differences(out, step, &due, explanation);
 }
@@ -137,8 +137,8 @@ void tell_step(FILE *out, const uint8_t *step)
     fputs("; ", out);
     tell_state(out, block_before(step));
     fputs("; ", out);
-    tell_outcome(out, pomurica_get_word(step, POMURICA_STEP_CODE), pomurica_get_word(due.answer, 0),
-                 pomurica_get_word(due.answer, 1));
+    tell_outcome(out, step, pomurica_get_word(due.answer, POMURICA_ANSWER_NUMBER),
+                 pomurica_get_word(due.answer, POMURICA_ANSWER_VALUE));
 }
 
 /* A Step of a trace on a line, without its end. */

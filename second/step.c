@@ -1,7 +1,7 @@
 /*
- * The step, in the order of document 01, with No. 5 of document 02.  The
- * block's bytes are read into words once, every rule speaks of words, and they
- * go back as bytes only when the step is DONE.
+ * The step, in the order of document 01, with No. 5 and No. 8 of document 02.
+ * The block's bytes are read into words once, every rule speaks of words, and
+ * they go back as bytes only when the step is DONE.
  */
 #include "second.h"
 #include "words.h"
@@ -146,6 +146,9 @@ static bool is_banked(const struct event *event)
 
 /* ------------------------------------------------------- Answer numbers */
 
+/* Routing, below: whether an SMC goes to Hyp. */
+static bool is_smc_trapped(const struct block *block);
+
 /* Banked-register rights, below: the register of A, and the right to it. */
 static uint32_t register_of(const struct event *event);
 static bool is_allowed(const struct block *block, uint32_t place);
@@ -199,7 +202,20 @@ static bool has_no_right(const struct block *block, const struct event *event)
     return is_banked(event) && !is_allowed(block, register_of(event));
 }
 
-/* Answer numbers: "The lowest number that applies wins". */
+/*
+ * No. 8: "SMC from Non-secure state with SCR.SCD (bit 7) 1, and HVC with SCR.HCE (bit 8) 0".  Where Arm leaves it open, for an
+ * SMC from Secure and an HVC from Hyp, "we choose DISABLED there" too, so that the state is not asked.
+ */
+static bool is_disabled(const struct block *block, const struct event *event)
+{
+    if (event->code == CODE_SMC)
+        return !is_smc_trapped(block) && is_one(block, SCR, SCR_SCD);
+    if (event->code == CODE_HVC)
+        return !is_one(block, SCR, SCR_HCE);
+    return false;
+}
+
+/* Answer numbers: "The lowest number that applies wins"; No. 8: "NOT_HERE goes before it". */
 static enum number refusal_of(const struct block *block, const struct event *event)
 {
     const enum number number = refusal_of_block(block);
@@ -214,6 +230,8 @@ static enum number refusal_of(const struct block *block, const struct event *eve
         return NO_REGISTER;
     if (has_no_right(block, event))
         return NO_RIGHT;
+    if (is_disabled(block, event))
+        return DISABLED;
     return DONE;
 }
 
@@ -243,7 +261,13 @@ enum exception {
     EXCEPTIONS
 };
 
-/* Routing: the exception of codes 1-8; "SMC from NS EL1 with TSC 1" is trapped. */
+/* Routing: "SMC from NS EL1 with TSC 1"; No. 8: "still trapped to Hyp, since Arm tests the trap first", whatever SCD says. */
+static bool is_smc_trapped(const struct block *block)
+{
+    return is_ns_el1(block) && is_one(block, HCR, HCR_TSC);
+}
+
+/* Routing: the exception of codes 1-8; a trapped SMC is one of its own. */
 static enum exception exception_of(const struct block *block, const struct event *event)
 {
     static const enum exception EXCEPTION[CODES] = {
@@ -257,7 +281,7 @@ static enum exception exception_of(const struct block *block, const struct event
         [CODE_MONITOR_TRAP]   = MONITOR_TRAP,
     };
 
-    if (event->code == CODE_SMC && is_ns_el1(block) && is_one(block, HCR, HCR_TSC))
+    if (event->code == CODE_SMC && is_smc_trapped(block))
         return TRAPPED_SMC;
     return EXCEPTION[event->code];
 }

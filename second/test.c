@@ -1,7 +1,7 @@
 /*
  * The worked cases of document 01, "Numbers to hold against it", a to l, and
- * cases of our own for No. 1, No. 2, No. 5, No. 6 and No. 7 of document 02:
- * each is run and printed.  Exit status 1 if one differs.
+ * cases of our own for No. 1, No. 2, No. 5, No. 6, No. 7 and No. 8 of document
+ * 02: each is run and printed.  Exit status 1 if one differs.
  *
  *     cc -std=c11 -Wall -Wextra -Werror -O2 -I../host step.c batch.c check.c count.c session.c record.c test.c -o test &&
  *         ./test
@@ -171,7 +171,8 @@ static const struct {
 } COUNTED[] = {
     { CODE_INTERRUPT_CHECK, 4 },  /* IRQ: enters IRQ mode, 0x12 */
     { CODE_INTERRUPT_CHECK, 4 },  /* I is set: nothing taken */
-    { CODE_HVC, 0 },              /* enters Hyp mode, 0x1A */
+    { CODE_HVC, 0 },              /* HCE is 1: enters Hyp mode, 0x1A */
+    { CODE_SMC, 0 },              /* SCD is 1: DISABLED, no entry */
     { CODE_SVC, 1 },              /* BAD_EVENT, under its own code */
     { CODE_INTERRUPT_CHECK, 32 }, /* BAD_EVENT: not done, and so no check that took nothing */
     { 13, 0 },                    /* BAD_EVENT, under 0 */
@@ -179,8 +180,10 @@ static const struct {
 };
 
 /* No. 1: what they add up to, once and twice. */
-static const char ONCE[] = "1 0 1\n1 2 1\n1 4 1\n1 9 3\n1 10 1\n2 0 3\n2 4 3\n2 6 1\n3 18 1\n3 26 1\n4 0 1\n4 3 1\n";
-static const char TWICE[] = "1 0 2\n1 2 2\n1 4 2\n1 9 6\n1 10 2\n2 0 6\n2 4 6\n2 6 2\n3 18 2\n3 26 2\n4 0 2\n4 3 2\n";
+static const char ONCE[] = "1 0 1\n1 2 1\n1 3 1\n1 4 1\n1 9 3\n1 10 1\n2 0 3\n2 4 3\n2 6 1\n2 16 1\n"
+                           "3 18 1\n3 26 1\n4 0 1\n4 3 1\n";
+static const char TWICE[] = "1 0 2\n1 2 2\n1 3 2\n1 4 2\n1 9 6\n1 10 2\n2 0 6\n2 4 6\n2 6 2\n2 16 2\n"
+                            "3 18 2\n3 26 2\n4 0 2\n4 3 2\n";
 
 /* The trace: the lengths of the records, and of the trace of COUNTED. */
 enum {
@@ -203,7 +206,7 @@ static void record_counted(uint8_t *trace)
     uint8_t block[BLOCK_SIZE] = { 0 };
     uint8_t *record = trace;
 
-    put_word(block + 4 * SCR, SCR_NS);
+    put_word(block + 4 * SCR, SCR_NS | SCR_SCD | SCR_HCE);
     put_word(block + 4 * CPSR, MODE_SUPERVISOR);
     put_header(record, START_LENGTH, 1);
     put_word(record + START_COUNT, COUNTED_STEPS);
@@ -268,7 +271,7 @@ static void run_counts(void)
     run_count("counts, most", trace, sizeof trace, counts, DONE);
 }
 
-/* No. 2: a list that begins in Non-secure Supervisor, as case a does. */
+/* No. 2: a list that begins in Non-secure Supervisor, as case a does, with HCE 1. */
 static const struct pomurica_event EVENTS[] = {
     { CODE_INTERRUPT_CHECK, LINE_IRQ, 0 },
     { CODE_SVC, 1, 0 },
@@ -301,7 +304,7 @@ static const struct named AFTER[] = { { LR_irq, 0x8004 }, { ELR_hyp, 0x9004 }, {
 static void put_first_block(uint8_t *block, uint32_t mode)
 {
     memset(block, 0, BLOCK_SIZE);
-    put_word(block + 4 * SCR, SCR_NS);
+    put_word(block + 4 * SCR, SCR_NS | SCR_HCE);
     put_word(block + 4 * CPSR, mode);
     put_word(block + 4 * PC, 0x8000);
     put_word(block + 4 * VBAR_NS, 0x10000000);
@@ -435,37 +438,50 @@ static const struct worked_case TGE_CASES[] = {
 /* No. 5: how many of our own. */
 #define TGE_CASE_COUNT (sizeof TGE_CASES / sizeof TGE_CASES[0])
 
-/* No. 5: the first case as a trace of one Step, with the former answer or with that of the rules. */
-static void record_tge(uint8_t *trace, bool former)
+/* The trace: one Step. */
+enum {
+    ONE_LENGTH = START_LENGTH + STEP_LENGTH + END_LENGTH
+};
+
+/* The trace: a case as a trace of one Step, which says DONE, with the value 0 and a block that stayed. */
+static void record_nothing(uint8_t *trace, const struct worked_case *worked)
 {
     uint8_t *step = trace + START_LENGTH, *end = step + STEP_LENGTH;
 
-    memset(trace, 0, START_LENGTH + STEP_LENGTH + END_LENGTH);
+    memset(trace, 0, ONE_LENGTH);
     put_header(trace, START_LENGTH, 1);
     put_word(trace + START_COUNT, 1);
     for (uint32_t place = 0; place < PLACES; place++)
-        put_word(trace + START_BLOCK + 4 * place, TGE_CASES[0].start[place]);
+        put_word(trace + START_BLOCK + 4 * place, worked->start[place]);
     put_header(step, STEP_LENGTH, 2);
-    put_word(step + STEP_CODE, TGE_CASES[0].code);
-    put_word(step + STEP_A, TGE_CASES[0].a);
+    put_word(step + STEP_CODE, worked->code);
+    put_word(step + STEP_A, worked->a);
     memcpy(step + STEP_BLOCK, trace + START_BLOCK, BLOCK_SIZE);
-    if (!former)
-        second_step(step + STEP_BLOCK, BLOCK_SIZE, TGE_CASES[0].code, TGE_CASES[0].a, 0,
-                    step + STEP_ANSWER, ANSWER_SIZE);
     put_header(end, END_LENGTH, 3);
     put_word(end + END_COUNT, 1);
 }
 
-/* No. 5: "old traces that show the former answer are now WRONG_STEP". */
+/* The trace: the same with what the rules give, where some bits of SCR are turned round, and turned back behind the step. */
+static void record_turned(uint8_t *trace, const struct worked_case *worked, uint32_t scr_bits)
+{
+    uint8_t *step = trace + START_LENGTH, *block = step + STEP_BLOCK, *scr = block + 4 * SCR;
+
+    record_nothing(trace, worked);
+    put_word(scr, get_word(scr) ^ scr_bits);
+    second_step(block, BLOCK_SIZE, worked->code, worked->a, 0, step + STEP_ANSWER, ANSWER_SIZE);
+    put_word(scr, get_word(scr) ^ scr_bits);
+}
+
+/* No. 5: "old traces that show the former answer are now WRONG_STEP"; the former answer to the first case is nothing taken. */
 static void run_tge(void)
 {
-    uint8_t trace[START_LENGTH + STEP_LENGTH + END_LENGTH];
+    uint8_t trace[ONE_LENGTH];
 
     for (size_t i = 0; i < TGE_CASE_COUNT; i++)
         run_case(&TGE_CASES[i]);
-    record_tge(trace, true);
+    record_nothing(trace, &TGE_CASES[0]);
     run_trace("trace before", trace, sizeof trace, WRONG_STEP, START_LENGTH, 0);
-    record_tge(trace, false);
+    record_turned(trace, &TGE_CASES[0], 0);
     run_trace("trace after", trace, sizeof trace, DONE, sizeof trace, 1);
 }
 
@@ -664,7 +680,7 @@ static void run_sessions(void)
 
 /* No. 7: one Step, from a block without a known mode, for an event without a known code: every byte by hand. */
 static const struct pomurica_event UNKNOWN = { 0x04030201, 0x08070605, 0x0C0B0A09 };
-static const uint8_t ONE_STEP[START_LENGTH + STEP_LENGTH + END_LENGTH] = {
+static const uint8_t ONE_STEP[ONE_LENGTH] = {
     [0] = 0xB8, 0x00, 0x01, 0x00, 0x01, 0x00, 0x00, 0x00, /* n */
     [8] = 0x11, [183] = 0x22,                             /* the block's first byte and its last */
     [184] = 0xC8, 0x00, 0x02, 0x00, 0x01, 0x02, 0x03, 0x04, 0x05, 0x06, 0x07, 0x08, 0x09, 0x0A, 0x0B, 0x0C,
@@ -812,6 +828,156 @@ static void run_recordings(void)
     run_most();
 }
 
+/* No. 8: the calls by hand, where words move or a paper's sentence decides; the table below has the others. */
+static const struct worked_case CALL_CASES[] = {
+    { .name = "SMC, SCD 0", /* taken, as document 01 has it; HCE plays no part */
+      .start = { [SCR] = SCR_NS, [CPSR] = 0x13, [PC] = 0x8000, [MVBAR] = 0x30000000 },
+      .code = CODE_SMC, .value = 0x1608,
+      .after = { { CPSR, 0x1D6 }, { SPSR_mon, 0x13 }, { LR_mon, 0x8004 }, { PC, 0x30000008 } }, .named = 4 },
+    { .name = "SMC, SCD 1",
+      .start = { [SCR] = SCR_NS | SCR_SCD, [CPSR] = 0x13, [PC] = 0x8000, [MVBAR] = 0x30000000 },
+      .code = CODE_SMC, .number = DISABLED, .unchanged = true },
+    { .name = "SMC, trapped", /* "since Arm tests the trap first" */
+      .start = { [SCR] = SCR_NS | SCR_SCD, [HCR] = HCR_TSC, [CPSR] = 0x13, [PC] = 0x8000, [HVBAR] = 0x20000000 },
+      .code = CODE_SMC, .value = 0x1A14,
+      .after = { { CPSR, 0x1DA }, { SPSR_hyp, 0x13 }, { ELR_hyp, 0x8000 }, { PC, 0x20000014 } }, .named = 4 },
+    { .name = "SMC, Monitor", /* Secure, whatever NS says: no trap, and "we choose DISABLED there as well"; NS stays */
+      .start = { [SCR] = SCR_NS | SCR_SCD, [HCR] = HCR_TSC, [CPSR] = 0x16, [PC] = 0x8000 },
+      .code = CODE_SMC, .number = DISABLED, .unchanged = true },
+    { .name = "h, bits 6, 8", /* the bits beside SCD disable no SMC */
+      .start = { [SCR] = SCR_NS | 0x40 | SCR_HCE, [CPSR] = 0x16, [PC] = 0x8000 },
+      .code = CODE_SMC, .value = 0x1608,
+      .after = { { SCR, 0x40 | SCR_HCE }, { LR_mon, 0x8004 } }, .named = 2 },
+    { .name = "SMC, A 1", /* BAD_EVENT is the lowest */
+      .start = { [SCR] = SCR_NS | SCR_SCD, [CPSR] = 0x13, [PC] = 0x8000 },
+      .code = CODE_SMC, .a = 1, .number = BAD_EVENT, .unchanged = true },
+    { .name = "HVC, HCE 1", /* SCD plays no part */
+      .start = { [SCR] = SCR_NS | SCR_SCD | SCR_HCE, [CPSR] = 0x13, [PC] = 0x8000, [HVBAR] = 0x20000000 },
+      .code = CODE_HVC, .value = 0x1A14,
+      .after = { { CPSR, 0x1DA }, { SPSR_hyp, 0x13 }, { ELR_hyp, 0x8004 }, { PC, 0x20000014 } }, .named = 4 },
+    { .name = "HVC, HCE 0",
+      .start = { [SCR] = SCR_NS, [CPSR] = 0x13, [PC] = 0x8000, [HVBAR] = 0x20000000 },
+      .code = CODE_HVC, .number = DISABLED, .unchanged = true },
+    { .name = "HVC, Hyp", /* "we choose DISABLED there too" */
+      .start = { [SCR] = SCR_NS, [CPSR] = 0x1A, [PC] = 0x8000, [HVBAR] = 0x20000000 },
+      .code = CODE_HVC, .number = DISABLED, .unchanged = true },
+    { .name = "Hyp, HCE 1", /* from Hyp itself at its own offset */
+      .start = { [SCR] = SCR_NS | SCR_HCE, [CPSR] = 0x1A, [PC] = 0x8000, [HVBAR] = 0x20000000 },
+      .code = CODE_HVC, .value = 0x1A08,
+      .after = { { CPSR, 0x1DA }, { SPSR_hyp, 0x1A }, { ELR_hyp, 0x8004 }, { PC, 0x20000008 } }, .named = 4 },
+    { .name = "bits 7 and 9", /* the bits beside HCE enable no HVC */
+      .start = { [SCR] = SCR_NS | SCR_SCD | 0x200, [CPSR] = 0x13, [PC] = 0x8000 },
+      .code = CODE_HVC, .number = DISABLED, .unchanged = true },
+    { .name = "HVC, A 1",
+      .start = { [SCR] = SCR_NS, [CPSR] = 0x13, [PC] = 0x8000 },
+      .code = CODE_HVC, .a = 1, .number = BAD_EVENT, .unchanged = true },
+    { .name = "code 1", /* "the recorder must send code 1": Undefined, which neither bit disables */
+      .start = { [SCR] = SCR_NS | SCR_SCD, [CPSR] = 0x13, [PC] = 0x8000 },
+      .code = CODE_UNDEFINED, .value = 0x1B04,
+      .after = { { CPSR, 0x9B }, { LR_und, 0x8004 } }, .named = 2 },
+    { .name = "SVC", /* no call that can be disabled */
+      .start = { [SCR] = SCR_NS | SCR_SCD, [CPSR] = 0x13, [PC] = 0x8000 },
+      .code = CODE_SVC, .value = 0x1308,
+      .after = { { CPSR, 0x93 }, { LR_svc, 0x8004 } }, .named = 2 },
+};
+
+/* No. 8: how many by hand. */
+#define CALL_CASE_COUNT (sizeof CALL_CASES / sizeof CALL_CASES[0])
+
+/* No. 8: what a call comes to; no value of an entry is a number of a refusal. */
+enum outcome {
+    NOWHERE = NOT_HERE,
+    OFF = DISABLED,
+    MONITOR = 0x1608, /* DONE, taken to Monitor */
+    HYP_14 = 0x1A14,  /* DONE, to Hyp from another mode */
+    HYP_08 = 0x1A08   /* DONE, to Hyp from Hyp */
+};
+
+/* No. 8: from every mode, Secure and Non-secure: SMC by TSC and SCD, HVC by HCE. */
+static const struct caller {
+    const char *name;
+    uint32_t mode, ns;
+    enum outcome smc[2][2]; /* by TSC, then SCD */
+    enum outcome hvc[2];    /* by HCE */
+} CALLERS[] = {
+    { "User",          MODE_USER,       0, { { NOWHERE, NOWHERE }, { NOWHERE, NOWHERE } }, { NOWHERE, NOWHERE } },
+    { "FIQ",           MODE_FIQ,        0, { { MONITOR, OFF },     { MONITOR, OFF } },     { NOWHERE, NOWHERE } },
+    { "IRQ",           MODE_IRQ,        0, { { MONITOR, OFF },     { MONITOR, OFF } },     { NOWHERE, NOWHERE } },
+    { "Supervisor",    MODE_SUPERVISOR, 0, { { MONITOR, OFF },     { MONITOR, OFF } },     { NOWHERE, NOWHERE } },
+    { "Monitor",       MODE_MONITOR,    0, { { MONITOR, OFF },     { MONITOR, OFF } },     { NOWHERE, NOWHERE } },
+    { "Abort",         MODE_ABORT,      0, { { MONITOR, OFF },     { MONITOR, OFF } },     { NOWHERE, NOWHERE } },
+    { "Undefined",     MODE_UNDEFINED,  0, { { MONITOR, OFF },     { MONITOR, OFF } },     { NOWHERE, NOWHERE } },
+    { "System",        MODE_SYSTEM,     0, { { MONITOR, OFF },     { MONITOR, OFF } },     { NOWHERE, NOWHERE } },
+    { "NS User",       MODE_USER,       1, { { NOWHERE, NOWHERE }, { NOWHERE, NOWHERE } }, { NOWHERE, NOWHERE } },
+    { "NS FIQ",        MODE_FIQ,        1, { { MONITOR, OFF },     { HYP_14, HYP_14 } },   { OFF, HYP_14 } },
+    { "NS IRQ",        MODE_IRQ,        1, { { MONITOR, OFF },     { HYP_14, HYP_14 } },   { OFF, HYP_14 } },
+    { "NS Supervisor", MODE_SUPERVISOR, 1, { { MONITOR, OFF },     { HYP_14, HYP_14 } },   { OFF, HYP_14 } },
+    { "NS Monitor",    MODE_MONITOR,    1, { { MONITOR, OFF },     { MONITOR, OFF } },     { NOWHERE, NOWHERE } },
+    { "NS Abort",      MODE_ABORT,      1, { { MONITOR, OFF },     { HYP_14, HYP_14 } },   { OFF, HYP_14 } },
+    { "Hyp",           MODE_HYP,        1, { { MONITOR, OFF },     { MONITOR, OFF } },     { OFF, HYP_08 } },
+    { "NS Undefined",  MODE_UNDEFINED,  1, { { MONITOR, OFF },     { HYP_14, HYP_14 } },   { OFF, HYP_14 } },
+    { "NS System",     MODE_SYSTEM,     1, { { MONITOR, OFF },     { HYP_14, HYP_14 } },   { OFF, HYP_14 } },
+};
+
+/* No. 8: whether the call comes to this from the mode, with these bits; "A refused step: number, value 0, block unchanged". */
+static bool comes_to(uint32_t code, uint32_t mode, uint32_t scr, uint32_t hcr, enum outcome due)
+{
+    const bool refused = due == NOWHERE || due == OFF;
+    uint8_t before[BLOCK_SIZE] = { 0 }, block[BLOCK_SIZE], answer[ANSWER_SIZE];
+    uint32_t number;
+
+    put_word(before + 4 * CPSR, mode);
+    put_word(before + 4 * PC, 0x8000);
+    put_word(before + 4 * SCR, scr);
+    put_word(before + 4 * HCR, hcr);
+    memcpy(block, before, sizeof block);
+    memset(answer, 0xAA, sizeof answer);
+    number = second_step(block, sizeof block, code, 0, 0, answer, sizeof answer);
+    if (number != get_word(answer))
+        return false;
+    if (!refused)
+        return number == DONE && get_word(answer + 4) == (uint32_t)due;
+    return number == (uint32_t)due && get_word(answer + 4) == 0 && memcmp(before, block, sizeof block) == 0;
+}
+
+/* No. 8: both calls from one mode, with each of TSC, SCD and HCE 0 and 1. */
+static void run_caller(const struct caller *caller)
+{
+    unsigned calls = 0;
+
+    for (uint32_t bits = 0; bits < 8; bits++) {
+        const uint32_t tsc = bits & 1, scd = bits >> 1 & 1, hce = bits >> 2;
+        const uint32_t scr = caller->ns * SCR_NS | scd * SCR_SCD | hce * SCR_HCE, hcr = tsc * HCR_TSC;
+
+        calls += comes_to(CODE_SMC, caller->mode, scr, hcr, caller->smc[tsc][scd]);
+        calls += comes_to(CODE_HVC, caller->mode, scr, hcr, caller->hvc[hce]);
+    }
+    printf("%-13s %u calls as due", caller->name, calls);
+    tell(calls == 16);
+}
+
+/* No. 8: "Old traces that show such a call taken are now WRONG_STEP": taken as with the disable bit the other way. */
+static void run_old_call(const struct worked_case *worked)
+{
+    uint8_t trace[ONE_LENGTH];
+
+    record_turned(trace, worked, worked->code == CODE_SMC ? SCR_SCD : SCR_HCE);
+    run_trace("call taken", trace, sizeof trace, WRONG_STEP, START_LENGTH, 0);
+    record_turned(trace, worked, 0);
+    run_trace("call refused", trace, sizeof trace, DONE, sizeof trace, 1);
+}
+
+static void run_calls(void)
+{
+    for (size_t i = 0; i < CALL_CASE_COUNT; i++) {
+        run_case(&CALL_CASES[i]);
+        if (CALL_CASES[i].number == DISABLED)
+            run_old_call(&CALL_CASES[i]);
+    }
+    for (size_t i = 0; i < sizeof CALLERS / sizeof CALLERS[0]; i++)
+        run_caller(&CALLERS[i]);
+}
+
 int main(void)
 {
     for (size_t i = 0; i < CASE_COUNT; i++)
@@ -822,6 +988,7 @@ int main(void)
     run_tge();
     run_sessions();
     run_recordings();
+    run_calls();
     printf("%u passed, %u failed\n", run - differing, differing);
     return differing == 0 ? 0 : 1;
 }

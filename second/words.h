@@ -1,7 +1,7 @@
 /*
  * The words of document 01: its names for places, modes, events, numbers, bits
- * and the parts of a record, and how a word lies in bytes.  No. 1, No. 6 and
- * No. 7 are those of document 02.
+ * and the parts of a record, and how a word lies in bytes.  No. 1, No. 6, No. 7
+ * and No. 8 are those of document 02.
  */
 #ifndef WORDS_H
 #define WORDS_H
@@ -48,14 +48,16 @@ enum cpsr_bits {
     CPSR_IT = 3 << 25 | 0x3F << 10
 };
 
-/* The state block: the bits of SCR. */
+/* The state block: the bits of SCR; No. 8: SCD and HCE, which in document 01 "steer nothing". */
 enum scr_bits {
     SCR_NS = 1 << 0,
     SCR_IRQ = 1 << 1,
     SCR_FIQ = 1 << 2,
     SCR_EA = 1 << 3,
     SCR_FW = 1 << 4,
-    SCR_AW = 1 << 5
+    SCR_AW = 1 << 5,
+    SCR_SCD = 1 << 7,
+    SCR_HCE = 1 << 8
 };
 
 /* The state block: the bits of HCR. */
@@ -110,8 +112,8 @@ enum line_bits {
 };
 
 /*
- * Answer numbers: 0 to 7 of a step; 0 and 8 to 12 of the checker (The trace); 13 and 15 of counts (No. 1); 14 of a feeding
- * (No. 6); 0, 1, 10 and 15 of the recorder (No. 7).
+ * Answer numbers: 0 to 7 of a step, and 16 (No. 8); 0 and 8 to 12 of the checker (The trace); 13 and 15 of counts (No. 1); 14
+ * of a feeding (No. 6); 0, 1, 10 and 15 of the recorder (No. 7).
  */
 enum number {
     DONE = 0,
@@ -129,7 +131,8 @@ enum number {
     TRAILING = 12,
     FULL = 13,
     CLOSED = 14,
-    NO_ROOM = 15
+    NO_ROOM = 15,
+    DISABLED = 16
 };
 
 /* The state block, Answer numbers, The trace, No. 1: sizes in bytes. */

@@ -1,5 +1,7 @@
 #include "any_session.h"
 
+#include "numbers.h"
+
 #include "../second/second.h"
 #include "../second/words.h"
 
@@ -86,7 +88,7 @@ static void spoil_one(struct chance *chance, struct pomurica_session *session)
     case 3: session->place = 0u - any_below(chance, 2 * STEP_SIZE); break; /* it will wrap */
     case 4: session->held = any_held(chance); break;
     case 5: session->held = any_word(chance); break;
-    case 6: session->fault = any_small(chance, POMURICA_NO_ROOM + 2); break;
+    case 6: session->fault = any_small(chance, LAST_NUMBER + 2); break;
     case 7: session->closed = any_small(chance, 3); break;
     case 8: spoil_record(chance, session->unfinished); break;
     default: any_block(chance, session->block); break;

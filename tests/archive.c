@@ -1,6 +1,7 @@
 /*
  * The step of the archive, called from C: document 01's worked cases a to k,
- * every length of both buffers from 0 to 200, and guard bytes around both.
+ * calls that the disable bits stop (No. 8), every length of both buffers from 0
+ * to 200, and guard bytes around both.
  */
 #include "group.h"
 #include "lent.h"
@@ -25,7 +26,8 @@ enum {
     CHECK = POMURICA_EVENT_INTERRUPT_CHECK,
     READ = POMURICA_EVENT_BANKED_READ,
     SVC = POMURICA_EVENT_SVC,
-    SMC = POMURICA_EVENT_SMC
+    SMC = POMURICA_EVENT_SMC,
+    HVC = POMURICA_EVENT_HVC
 };
 
 /* The words that decide a worked case; the others are 0 but PC, 0x8000 unless named. */
@@ -69,6 +71,65 @@ static const struct worked_case ENTRIES[] = {
       POMURICA_DONE, 0x1308, { { LR_SVC, 0 }, { CPSR, 0x93 } }, 2 },
     { "h", { .scr = 1, .cpsr = 0x16, .pc = PC_HERE }, SMC, 0,
       POMURICA_DONE, 0x1608, { { SCR, 0 }, { LR_MON, 0x8004 } }, 2 },
+};
+
+#define NS POMURICA_SCR_NS
+#define SCD POMURICA_SCR_SCD
+#define HCE POMURICA_SCR_HCE
+#define TSC POMURICA_HCR_TSC
+#define TGE POMURICA_HCR_TGE
+
+/* No. 8: calls that are done; an SMC from Non-secure EL1 with TSC 1 is trapped whatever SCD is. */
+static const struct worked_case CALLS[] = {
+    { "SMC from Secure", { .cpsr = 0x13, .pc = PC_HERE }, SMC, 0,
+      POMURICA_DONE, 0x1608, { { CPSR, 0x1D6 }, { LR_MON, 0x8004 }, { PC, 0x08 } }, 3 },
+    { "SMC from NS EL1", { .scr = NS, .cpsr = 0x13, .pc = PC_HERE }, SMC, 0,
+      POMURICA_DONE, 0x1608, { { SCR, NS }, { LR_MON, 0x8004 }, { PC, 0x08 } }, 3 },
+    { "SMC from NS EL1, TSC", { .scr = NS, .hcr = TSC, .cpsr = 0x13, .pc = PC_HERE }, SMC, 0,
+      POMURICA_DONE, 0x1A14, { { CPSR, 0x1DA }, { ELR_HYP, 0x8000 }, { PC, 0x14 } }, 3 },
+    { "SMC from NS EL1, SCD, TSC", { .scr = NS | SCD, .hcr = TSC, .cpsr = 0x13, .pc = PC_HERE }, SMC, 0,
+      POMURICA_DONE, 0x1A14, { { CPSR, 0x1DA }, { ELR_HYP, 0x8000 }, { PC, 0x14 } }, 3 },
+    { "SMC from NS System, SCD, TSC", { .scr = NS | SCD, .hcr = TSC, .cpsr = 0x1F, .pc = PC_HERE }, SMC, 0,
+      POMURICA_DONE, 0x1A14, { { CPSR, 0x1DA }, { ELR_HYP, 0x8000 }, { PC, 0x14 } }, 3 },
+    { "SMC from Hyp", { .scr = NS, .cpsr = 0x1A, .pc = PC_HERE }, SMC, 0,
+      POMURICA_DONE, 0x1608, { { SCR, NS }, { LR_MON, 0x8004 }, { PC, 0x08 } }, 3 },
+    { "HVC from NS EL1, HCE", { .scr = NS | HCE, .cpsr = 0x13, .pc = PC_HERE }, HVC, 0,
+      POMURICA_DONE, 0x1A14, { { CPSR, 0x1DA }, { ELR_HYP, 0x8004 }, { PC, 0x14 } }, 3 },
+    { "HVC from NS EL1, HCE, SCD, TSC", { .scr = NS | HCE | SCD, .hcr = TSC, .cpsr = 0x13, .pc = PC_HERE }, HVC, 0,
+      POMURICA_DONE, 0x1A14, { { CPSR, 0x1DA }, { ELR_HYP, 0x8004 }, { PC, 0x14 } }, 3 },
+    { "HVC from Hyp, HCE", { .scr = NS | HCE, .cpsr = 0x1A, .pc = PC_HERE }, HVC, 0,
+      POMURICA_DONE, 0x1A08, { { CPSR, 0x1DA }, { ELR_HYP, 0x8004 }, { PC, 0x08 } }, 3 },
+};
+
+/* No. 8: calls that are refused; BAD_EVENT and NOT_HERE go before DISABLED. */
+struct refused_call {
+    const char *name;
+    uint32_t code, a, scr, hcr, cpsr, number;
+};
+
+static const struct refused_call REFUSED_CALLS[] = {
+    { "SMC from Secure, SCD", SMC, 0, SCD, 0, 0x13, POMURICA_DISABLED },
+    { "SMC from Secure, SCD, TSC", SMC, 0, SCD, TSC, 0x13, POMURICA_DISABLED },
+    { "SMC from Monitor, SCD", SMC, 0, SCD, 0, 0x16, POMURICA_DISABLED },
+    { "h with SCD", SMC, 0, NS | SCD, 0, 0x16, POMURICA_DISABLED },
+    { "h with SCD, TSC", SMC, 0, NS | SCD, TSC, 0x16, POMURICA_DISABLED },
+    { "SMC from NS EL1, SCD", SMC, 0, NS | SCD, 0, 0x13, POMURICA_DISABLED },
+    { "SMC from Hyp, SCD", SMC, 0, NS | SCD, 0, 0x1A, POMURICA_DISABLED },
+    { "SMC from Hyp, SCD, TSC", SMC, 0, NS | SCD, TSC, 0x1A, POMURICA_DISABLED },
+    { "SMC from Secure User, SCD", SMC, 0, SCD, 0, 0x10, POMURICA_NOT_HERE },
+    { "SMC from NS User, SCD", SMC, 0, NS | SCD, 0, 0x10, POMURICA_NOT_HERE },
+    { "SMC from NS User, SCD, TSC, TGE", SMC, 0, NS | SCD, TSC | TGE, 0x10, POMURICA_NOT_HERE },
+    { "SMC with A 1, SCD", SMC, 1, NS | SCD, 0, 0x13, POMURICA_BAD_EVENT },
+    { "HVC from NS EL1", HVC, 0, NS, 0, 0x13, POMURICA_DISABLED },
+    { "HVC from NS EL1, SCD, TSC", HVC, 0, NS | SCD, TSC, 0x13, POMURICA_DISABLED },
+    { "HVC from Hyp", HVC, 0, NS, 0, 0x1A, POMURICA_DISABLED },
+    { "HVC from NS User", HVC, 0, NS, 0, 0x10, POMURICA_NOT_HERE },
+    { "HVC from NS User, HCE", HVC, 0, NS | HCE, 0, 0x10, POMURICA_NOT_HERE },
+    { "HVC from Secure", HVC, 0, 0, 0, 0x13, POMURICA_NOT_HERE },
+    { "HVC from Secure, HCE", HVC, 0, HCE, 0, 0x13, POMURICA_NOT_HERE },
+    { "HVC from Monitor, NS 1", HVC, 0, NS, 0, 0x16, POMURICA_NOT_HERE },
+    { "HVC from Monitor, NS 1, HCE", HVC, 0, NS | HCE, 0, 0x16, POMURICA_NOT_HERE },
+    { "HVC with A 1", HVC, 1, NS, 0, 0x13, POMURICA_BAD_EVENT },
 };
 
 /* Cases i, j and k: a banked read, and the place of the register that a done one shows. */
@@ -158,6 +219,43 @@ static void run_entry(const struct worked_case *worked)
         check(is_unchanged(&call.block), "%s: the block changed", worked->name);
 }
 
+static void run_refused_call(const struct refused_call *refused)
+{
+    const struct worked_case worked = {
+        .name = refused->name,
+        .start = { .scr = refused->scr, .hcr = refused->hcr, .cpsr = refused->cpsr, .pc = PC_HERE },
+        .code = refused->code, .a = refused->a, .number = refused->number,
+    };
+
+    run_entry(&worked);
+}
+
+/* From Non-secure Supervisor with this SCR a call is done or DISABLED, as it has to be. */
+static void run_call(uint32_t code, uint32_t scr, bool enabled)
+{
+    const struct start start = { .scr = scr, .cpsr = 0x13, .pc = PC_HERE };
+    uint8_t block[POMURICA_BLOCK_SIZE] = { 0 };
+    char name[32];
+    struct call call;
+
+    snprintf(name, sizeof name, "code %u, SCR 0x%X", code, scr);
+    put_start(block, &start);
+    call_whole(&call, name, block, code, 0);
+    check(call.number == (enabled ? POMURICA_DONE : POMURICA_DISABLED), "%s: number %u", name, call.number);
+    check(is_unchanged(&call.block) != enabled, "%s: the block changed, or did not", name);
+}
+
+/* Each bit of SCR but NS alone, and all but it: only SCD disables an SMC, only HCE enables an HVC. */
+static void run_bits(void)
+{
+    for (uint32_t bit = NS << 1; bit != 0; bit <<= 1) {
+        run_call(SMC, NS | bit, bit != SCD);
+        run_call(SMC, ~bit, bit == SCD);
+        run_call(HVC, NS | bit, bit == HCE);
+        run_call(HVC, ~bit, bit != HCE);
+    }
+}
+
 /* On a block whose other words are as given: a read changes no byte and shows its own register. */
 static void run_read(const struct read_case *worked, uint8_t *block)
 {
@@ -230,6 +328,13 @@ int main(void)
     run_reads(false);
     group("worked cases i to k, a different word at every place");
     run_reads(true);
+    group("calls that the disable bits leave, and calls that are refused");
+    for (size_t i = 0; i < COUNT(CALLS); i++)
+        run_entry(&CALLS[i]);
+    for (size_t i = 0; i < COUNT(REFUSED_CALLS); i++)
+        run_refused_call(&REFUSED_CALLS[i]);
+    group("calls with each bit of SCR alone, and with all but it");
+    run_bits();
     group("every length of both buffers from 0 to 200");
     run_lengths();
     group("NULL with length 0");

@@ -1,7 +1,8 @@
 /*
  * The checker of the archive, called from C: document 01's worked case l, a
- * trace cut before each of its bytes, bytes behind it, each byte changed, and
- * every length of the report from 0 to 200.
+ * trace cut before each of its bytes, bytes behind it, each byte changed, old
+ * traces of calls that are disabled now (No. 8), and every length of the report
+ * from 0 to 200.
  */
 #include "case_l.h"
 #include "edge.h"
@@ -16,7 +17,8 @@
 enum {
     STEPS = 3,
     LENGTH = POMURICA_START_SIZE + STEPS * POMURICA_STEP_SIZE + POMURICA_END_SIZE,
-    END_PLACE = LENGTH - POMURICA_END_SIZE
+    END_PLACE = LENGTH - POMURICA_END_SIZE,
+    ONE_STEP = POMURICA_START_SIZE + POMURICA_STEP_SIZE + POMURICA_END_SIZE
 };
 
 /* Where the words of a record lie, counted in words from its head. */
@@ -40,27 +42,25 @@ static void put_head(uint8_t *record, uint32_t length, uint32_t kind)
     pomurica_put_word(record, HEAD, length | kind << 16);
 }
 
-/* Writes the trace as a recorder does: each event, its answer, and the block after it. */
-static void record(uint8_t *trace)
+/* Writes the trace as a recorder does: each event, its answer, and the block after it, which moves on. */
+static void record(uint8_t *trace, uint8_t *block, const uint32_t (*events)[3], uint32_t n)
 {
-    uint8_t block[POMURICA_BLOCK_SIZE] = { 0 };
     uint8_t *step = trace + POMURICA_START_SIZE;
 
-    pomurica_put_word(block, POMURICA_PLACE_CPSR, POMURICA_MODE_USER);
     put_head(trace, POMURICA_START_SIZE, 1);
-    pomurica_put_word(trace, COUNT, STEPS);
-    memcpy(trace + 4 * START_BLOCK, block, sizeof block);
-    for (size_t i = 0; i < STEPS; i++, step += POMURICA_STEP_SIZE) {
+    pomurica_put_word(trace, COUNT, n);
+    memcpy(trace + 4 * START_BLOCK, block, POMURICA_BLOCK_SIZE);
+    for (size_t i = 0; i < n; i++, step += POMURICA_STEP_SIZE) {
         put_head(step, POMURICA_STEP_SIZE, 2);
-        pomurica_put_word(step, CODE, EVENTS[i][0]);
-        pomurica_put_word(step, A, EVENTS[i][1]);
-        pomurica_put_word(step, B, EVENTS[i][2]);
-        pomurica_step(block, sizeof block, EVENTS[i][0], EVENTS[i][1], EVENTS[i][2],
+        pomurica_put_word(step, CODE, events[i][0]);
+        pomurica_put_word(step, A, events[i][1]);
+        pomurica_put_word(step, B, events[i][2]);
+        pomurica_step(block, POMURICA_BLOCK_SIZE, events[i][0], events[i][1], events[i][2],
                       step + 4 * ANSWER, POMURICA_ANSWER_SIZE);
-        memcpy(step + 4 * STEP_BLOCK, block, sizeof block);
+        memcpy(step + 4 * STEP_BLOCK, block, POMURICA_BLOCK_SIZE);
     }
     put_head(step, POMURICA_END_SIZE, 3);
-    pomurica_put_word(step, COUNT, STEPS);
+    pomurica_put_word(step, COUNT, n);
 }
 
 /* The first byte of the record in which a byte lies, and the Steps before it. */
@@ -162,6 +162,44 @@ static void run_counts(const uint8_t *trace)
     expect(changed, LENGTH, POMURICA_BAD_COUNT, END_PLACE, STEPS);
 }
 
+/* A call from one block, with a word of SCR that enables it and one that does not. */
+struct call {
+    uint32_t code, cpsr, enabled, disabled;
+};
+
+static const struct call CALLS[] = {
+    { POMURICA_EVENT_SMC, 0x13, POMURICA_SCR_NS, POMURICA_SCR_NS | POMURICA_SCR_SCD },
+    { POMURICA_EVENT_SMC, 0x1A, POMURICA_SCR_NS, POMURICA_SCR_NS | POMURICA_SCR_SCD },
+    { POMURICA_EVENT_SMC, 0x13, 0, POMURICA_SCR_SCD },
+    { POMURICA_EVENT_HVC, 0x13, POMURICA_SCR_NS | POMURICA_SCR_HCE, POMURICA_SCR_NS },
+    { POMURICA_EVENT_HVC, 0x1A, POMURICA_SCR_NS | POMURICA_SCR_HCE, POMURICA_SCR_NS },
+};
+
+/*
+ * The call is enabled, and was taken; the same with the other SCR, before and
+ * after, is what document 01 took for right; and the call shown as DISABLED is
+ * what is right now.
+ */
+static void run_call(const struct call *call)
+{
+    const uint32_t event[1][3] = { { call->code, 0, 0 } };
+    uint8_t trace[ONE_STEP], block[POMURICA_BLOCK_SIZE] = { 0 };
+    uint8_t *const step = trace + POMURICA_START_SIZE;
+
+    pomurica_put_word(block, POMURICA_PLACE_CPSR, call->cpsr);
+    pomurica_put_word(block, POMURICA_PLACE_SCR, call->enabled);
+    record(trace, block, event, 1);
+    check(pomurica_get_word(step, ANSWER) == POMURICA_DONE, "code %u: not taken", call->code);
+    expect(trace, sizeof trace, POMURICA_DONE, sizeof trace, 1);
+    pomurica_put_word(trace, START_BLOCK + POMURICA_PLACE_SCR, call->disabled);
+    pomurica_put_word(step, STEP_BLOCK + POMURICA_PLACE_SCR, call->disabled);
+    expect(trace, sizeof trace, POMURICA_WRONG_STEP, POMURICA_START_SIZE, 0);
+    memset(step + 4 * ANSWER, 0, POMURICA_ANSWER_SIZE);
+    pomurica_put_word(step, ANSWER, POMURICA_DISABLED);
+    memcpy(step + 4 * STEP_BLOCK, trace + 4 * START_BLOCK, POMURICA_BLOCK_SIZE);
+    expect(trace, sizeof trace, POMURICA_DONE, sizeof trace, 1);
+}
+
 static void run_report_lengths(const uint8_t *trace)
 {
     for (size_t length = 0; length <= LONGEST_TRIED; length++) {
@@ -178,10 +216,11 @@ static void run_report_lengths(const uint8_t *trace)
 
 int main(void)
 {
-    uint8_t trace[LENGTH];
+    uint8_t trace[LENGTH], block[POMURICA_BLOCK_SIZE] = { 0 };
 
     open_edge(LENGTH + POMURICA_STEP_SIZE);
-    record(trace);
+    pomurica_put_word(block, POMURICA_PLACE_CPSR, POMURICA_MODE_USER);
+    record(trace, block, EVENTS, STEPS);
     group("worked case l");
     run_case_l();
     group("NULL with length 0, checker");
@@ -196,6 +235,9 @@ int main(void)
     run_changed(trace);
     group("wrong counts");
     run_counts(trace);
+    group("calls that are disabled, shown as taken and as refused");
+    for (size_t i = 0; i < sizeof CALLS / sizeof CALLS[0]; i++)
+        run_call(&CALLS[i]);
     group("every length of the report from 0 to 200");
     run_report_lengths(trace);
     return summary();

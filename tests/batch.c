@@ -18,6 +18,9 @@
 /* Of four different bytes. */
 #define NEW_WORD 0x12345678
 
+/* HVC enabled, SMC disabled. */
+#define CALLS (POMURICA_SCR_NS | POMURICA_SCR_HCE | POMURICA_SCR_SCD)
+
 /* A list from Non-secure Supervisor at 0x8000, with vectors at 0x10000000, and what each event answers. */
 static const struct {
     struct pomurica_event event;
@@ -33,6 +36,9 @@ static const struct {
     { { POMURICA_EVENT_SVC, 0, 0 }, { POMURICA_DONE, 0x1308 } },                              /* enters Supervisor */
     { { POMURICA_EVENT_BANKED_WRITE, 17, NEW_WORD }, { POMURICA_DONE, 0 } },                  /* SP_irq */
     { { POMURICA_EVENT_BANKED_READ, 17, 0 }, { POMURICA_DONE, NEW_WORD } },
+    { { POMURICA_EVENT_HVC, 0, 0 }, { POMURICA_DISABLED, 0 } },
+    { { POMURICA_EVENT_NOTE, POMURICA_PLACE_SCR, CALLS }, { POMURICA_DONE, 0 } },
+    { { POMURICA_EVENT_SMC, 0, 0 }, { POMURICA_DISABLED, 0 } },
     { { POMURICA_EVENT_HVC, 0, 0 }, { POMURICA_DONE, 0x1A14 } },                              /* enters Hyp */
     { { POMURICA_EVENT_HYP_TRAP, 0, 0 }, { POMURICA_NOT_HERE, 0 } },
     { { POMURICA_EVENT_BANKED_READ, 7, 0 }, { POMURICA_NO_REGISTER, 0 } },
@@ -53,7 +59,7 @@ static const struct {
     { POMURICA_PLACE_SPSR_HYP, POMURICA_CPSR_A | POMURICA_CPSR_I | POMURICA_MODE_SUPERVISOR },
     { POMURICA_PLACE_CPSR, POMURICA_CPSR_A | POMURICA_CPSR_I | POMURICA_CPSR_F | POMURICA_MODE_HYP },
     { POMURICA_PLACE_PC, 0x14 },
-    { POMURICA_PLACE_SCR, POMURICA_SCR_NS },
+    { POMURICA_PLACE_SCR, CALLS },
     { POMURICA_PLACE_VBAR_NS, 0x10000000 },
 };
 

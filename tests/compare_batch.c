@@ -12,6 +12,7 @@
 #include "any_list.h"
 #include "events.h"
 #include "group.h"
+#include "numbers.h"
 #include "question.h"
 
 #include <inttypes.h>
@@ -54,13 +55,9 @@ static const char *const KIND_NAMES[KINDS] = {
     [NONE_AND_BLOCK] = "BAD_SIZE: no event, block",
 };
 
-enum {
-    NUMBERS = POMURICA_NO_RIGHT + 1 /* of a step */
-};
-
 /* How often each kind of list, and each number of an answer, was met. */
 static struct {
-    unsigned long list[KINDS], answer[NUMBERS];
+    unsigned long list[KINDS], answer[STEP_NUMBERS];
 } met;
 
 /* ----------------------------------------------------------- What is met */
@@ -228,10 +225,11 @@ static void show_met(unsigned long thousands)
 
     for (uint32_t kind = 0; kind < KINDS; kind++)
         show(KIND_NAMES[kind], met.list[kind], seldom);
-    for (uint32_t number = 0; number < NUMBERS; number++)
-        if (number != POMURICA_BAD_SIZE)
+    for (uint32_t number = 0; number < STEP_NUMBERS; number++)
+        if (is_of_step(number) && number != POMURICA_BAD_SIZE)
             show(pomurica_number_name(number), met.answer[number], seldom);
-    check(met.answer[POMURICA_BAD_SIZE] == 0, "an event has the answer BAD_SIZE");
+        else
+            check(met.answer[number] == 0, "an event has the answer %s", pomurica_number_name(number));
 }
 
 int main(int argc, char **argv)

@@ -13,6 +13,7 @@
 #include "any_recording.h"
 #include "events.h"
 #include "group.h"
+#include "numbers.h"
 
 #include <inttypes.h>
 #include <stdio.h>
@@ -68,7 +69,6 @@ static const char *const KIND_NAMES[KINDS] = {
 
 enum {
     NUMBERS = POMURICA_NO_ROOM + 1,
-    STEP_NUMBERS = POMURICA_NO_RIGHT + 1,
     CODES = POMURICA_EVENT_NOTE + 1 /* 0 is for any that is unknown */
 };
 
@@ -324,10 +324,11 @@ static void show_met(unsigned long thousands)
         show(KIND_NAMES[kind], met.kind[kind], seldom);
     for (uint32_t number = 0; number < STEP_NUMBERS; number++) {
         snprintf(name, sizeof name, "a Step with %s", pomurica_number_name(number));
-        if (number != POMURICA_BAD_SIZE)
+        if (is_of_step(number) && number != POMURICA_BAD_SIZE)
             show(name, met.answer[number], seldom);
+        else
+            check(met.answer[number] == 0, "%s", name);
     }
-    check(met.answer[POMURICA_BAD_SIZE] == 0, "a Step has the answer BAD_SIZE");
     show_codes(seldom);
 }
 

@@ -15,6 +15,7 @@
 #include "cuts.h"
 #include "edge.h"
 #include "group.h"
+#include "numbers.h"
 #include "sessions.h"
 
 #include <inttypes.h>
@@ -41,7 +42,7 @@ static const struct calls THEIRS = { OTHER_OPEN, OTHER_FEED, OTHER_CLOSE };
 #define SEED 1
 
 enum {
-    NUMBERS = POMURICA_NO_ROOM + 1,
+    NUMBERS = LAST_NUMBER + 1,
     SHIFTS = 4, /* places in memory at which a session is lent */
     SELDOM = 5  /* how often each thing is met in a thousand cuts, at least */
 };

@@ -6,13 +6,15 @@
  *     compare_traces [THOUSANDS SEED]
  *
  * The other is the second implementation's, unless OTHER_CHECK says otherwise.
- * Prints how often each number was given and fails where one was too seldom.
+ * Prints how often each number was given, and each answer of an accepted Step,
+ * and fails where one was too seldom.
  */
 #include "case_l.h"
 #include "chance.h"
 #include "edge.h"
 #include "group.h"
 #include "lent.h"
+#include "numbers.h"
 #include "pomurica.h"
 #include "traces.h"
 
@@ -36,13 +38,17 @@ check_function OTHER_CHECK;
 #define THOUSANDS 40
 #define SEED 1
 
-/* How often each number is given, at least. */
-#define SELDOM 1000
+/* How often each number is given in a thousand traces, at least; and how often each answer stands in an accepted Step. */
+#define SELDOM 25
+#define SELDOM_ANSWER 10
 
 #define NUMBERS (TRAILING + 1)
 
 /* How often each number was given, by damage. */
 static unsigned long met[DAMAGES][NUMBERS];
+
+/* How often each answer stood in a Step of an accepted trace. */
+static unsigned long met_answer[STEP_NUMBERS];
 
 /* One call of a checker, and what came of it. */
 struct call {
@@ -151,6 +157,12 @@ static void compare_longest(struct chance *chance)
     free(trace);
 }
 
+static void meet_answers(const uint8_t *trace, size_t length)
+{
+    for (const uint8_t *step = trace + START_SIZE; step < trace + length - END_SIZE; step += STEP_SIZE)
+        met_answer[get_word(step + STEP_ANSWER)]++;
+}
+
 static void compare_random(struct chance *chance, unsigned long count, uint8_t *trace)
 {
     struct expected expected;
@@ -161,15 +173,18 @@ static void compare_random(struct chance *chance, unsigned long count, uint8_t *
         const uint64_t seed = chance->seed;
         const size_t length = make_trace(chance, damage, trace, &expected);
 
-        if (compare(trace, length, &expected, &ours))
+        if (compare(trace, length, &expected, &ours)) {
             met[damage][ours.number]++;
-        else if (is_telling())
+            if (ours.number == DONE)
+                meet_answers(trace, length);
+        } else if (is_telling()) {
             printf("        %s, %zu bytes, made from seed %" PRIu64 "\n", DAMAGE_NAMES[damage],
                    length, seed);
+        }
     }
 }
 
-static void show(void)
+static void show(unsigned long seldom)
 {
     static const uint32_t GIVEN[] = { DONE, SHORT, BAD_RECORD, BAD_COUNT, WRONG_STEP, TRAILING };
     const size_t given_count = sizeof GIVEN / sizeof GIVEN[0];
@@ -189,7 +204,21 @@ static void show(void)
 
         for (uint32_t damage = 0; damage < DAMAGES; damage++)
             times += met[damage][GIVEN[i]];
-        check(times >= SELDOM, "%s: given %lu times", pomurica_number_name(GIVEN[i]), times);
+        check(times >= seldom, "%s: given %lu times", pomurica_number_name(GIVEN[i]), times);
+    }
+}
+
+static void show_answers(unsigned long seldom)
+{
+    for (uint32_t number = 0; number < STEP_NUMBERS; number++) {
+        const char *const name = pomurica_number_name(number);
+
+        if (!is_of_step(number) || number == BAD_SIZE) {
+            check(met_answer[number] == 0, "a Step with %s: accepted %lu times", name, met_answer[number]);
+            continue;
+        }
+        printf("  a Step with %-24s %10lu\n", name, met_answer[number]);
+        check(met_answer[number] >= seldom, "a Step with %s: accepted %lu times", name, met_answer[number]);
     }
 }
 
@@ -207,7 +236,8 @@ int main(int argc, char **argv)
     compare_sizes(&chance, trace);
     group("traces of chance, side by side, of every kind");
     compare_random(&chance, thousands * 1000, trace);
-    show();
+    show(SELDOM * thousands);
+    show_answers(SELDOM_ANSWER * thousands);
     group("the longest trace, side by side");
     compare_longest(&chance);
     return summary();

@@ -19,7 +19,7 @@ sys.dont_write_bytecode = True
 from names import shown  # noqa: E402
 from page import Page  # noqa: E402
 from records import (  # noqa: E402
-    BLOCK_SIZE, END_SIZE, SAMPLES, SHORTEST, START_SIZE, STEP_KIND, STEP_SIZE, accepted, long_trace, start_record)
+    BLOCK_SIZE, END_SIZE, SAMPLES, SHORTEST, START_SIZE, STEP_KIND, STEP_NUMBER, STEP_SIZE, accepted, long_trace, start_record)
 from runs import Runs, on_terminal, read, write  # noqa: E402
 from status import differing_fields  # noqa: E402
 
@@ -178,6 +178,40 @@ def try_flips():
     expect('every bit of a trace turned over, and the figures of the README', said in readme, (said, answers))
 
 
+def try_disabled():
+    """Why a call is refused as disabled, in lines and on the page: of what an older recorder shows, and of honest Steps."""
+    hvc, smc = 'HVC is disabled: SCR.HCE is 0', 'SMC is disabled: SCR.SCD is 1'
+    for name, told in {'hvc-without-hce': {hvc}, 'smc-under-scd': {smc}, 'disabled-calls': {hvc, smc}, 'honest': set()}.items():
+        sample = os.path.join(SAMPLES, f'{name}.trace')
+        for option in ['--explain', '--trace', '--html']:
+            out = run(option, sample)[1].decode()
+            due = told if option != '--explain' or len(told) == 1 else set()
+            expect(f'{option} {name}: {len(due)} reasons', {why for why in (hvc, smc) if why in out} == due, out[-1000:])
+    trace = bytearray(read(os.path.join(SAMPLES, 'disabled-calls.trace')))
+    trace[START_SIZE + STEP_NUMBER] = 5
+    expect_run('shown as refused for another reason', ['--explain', write('not-here', trace)], 1,
+               b'not-here: refused 11 WRONG_STEP at byte 184 after 0 Steps\n'
+               b'  Step 1 at byte 184: HVC\n  it was in Non-secure Supervisor, nothing masked\n'
+               b'  the rules give: refused with 16 DISABLED (HVC is disabled: SCR.HCE is 0)\n'
+               b'    answer number 0x00000010 due, 0x00000005 found\n')
+    expect_page('the page of it', page_of('not-here'), hvc, smc, steps=5, wrong=['1'])
+
+
+def try_readme():
+    """What the README shows of verdicts, literally."""
+    write('console', ('#!/bin/sh\nexec ' + ' '.join(f"'{word}'" for word in COMMAND) + ' "$@"\n').encode())
+    os.chmod('console', 0o755)
+    os.symlink(SAMPLES, 'samples')
+    readme = read(os.path.join(SAMPLES, '../README.md')).decode()
+    for title, least in {'## Two commands': 3, '### Traces of older recorders': 1}.items():
+        section = re.search(rf'^{title}\n(.*?)^##', readme, re.M | re.S)[1]
+        shows = re.findall(r'^    \$ (.*)\n((?:    [^$].*\n)*)', section, re.M)
+        expect(f'README: {title}', len(shows) >= least, shows)
+        for command, out in shows:
+            done = subprocess.run(['sh', '-c', command], capture_output=True, check=False)
+            expect(f'README: {command}', (done.stdout.decode(), done.stderr) == (re.sub('^    ', '', out, flags=re.M), b''), done)
+
+
 def compare_telling(page, lines):
     """What the page says of Steps against the lines of --explain and --trace."""
     listed = list(page.told_steps())
@@ -236,7 +270,7 @@ def try_pages():
 def limit_steps():
     """Steps of every code and of none, with operands, answer numbers and values at their limits and right behind them."""
     for code, a, (number, value) in itertools.product(
-            range(14), (3, 4, 31, 32, 43, 44, 63, 64), ((0, 6 << 16), (0, 7 << 16), (15, 0), (16, 0))):
+            range(14), (3, 4, 31, 32, 43, 44, 63, 64), ((0, 6 << 16), (0, 7 << 16), (14, 0), (15, 0), (16, 0), (17, 0))):
         yield struct.pack('<HHIIIII', STEP_SIZE, STEP_KIND, code, a, 0, number, value) + bytes(BLOCK_SIZE)
 
 
@@ -335,6 +369,8 @@ with tempfile.TemporaryDirectory() as room:
     try_folder()
     try_flips()
     try_pages()
+    try_disabled()
+    try_readme()
     try_unjudged()
     try_long_pages()
     try_names()

@@ -1,5 +1,7 @@
 #include "cuts.h"
 
+#include "numbers.h"
+
 #include <string.h>
 
 #define COUNT(list) (sizeof(list) / sizeof((list)[0]))
@@ -56,7 +58,7 @@ static uint32_t near_end(struct chance *chance)
 /* What marks a session as closed, or as faulty: mostly a number that there is, or the next. */
 static uint32_t any_mark(struct chance *chance)
 {
-    return one_in(chance, 4) ? near_end(chance) : any_below(chance, POMURICA_NO_ROOM + 2);
+    return one_in(chance, 4) ? near_end(chance) : any_below(chance, LAST_NUMBER + 2);
 }
 
 /* As many bytes as a head, a record or nothing has, or about as many. */

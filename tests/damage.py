@@ -9,6 +9,7 @@ import re
 import sys
 
 sys.dont_write_bytecode = True
+from records import START_BLOCK, START_SIZE  # noqa: E402
 from runs import Runs, read  # noqa: E402
 
 SAMPLES = os.path.abspath(sys.argv[1])
@@ -33,6 +34,10 @@ MISUSED = [
     (['stale', '1', 'SPSR'], "no place 'SPSR' in the block"),
     (['stale', '1', 'S'], "no place 'S' in the block"),
     (['flip', '1', 'CPSR', '32'], 'no bit 32 in a word'),
+    (['flip-all', 'SCR'], 'flip-all takes PLACE BIT'),
+    (['flip-all', 'SCR', '-1'], 'no bit -1 in a word'),
+    (['flip-all', 'SCR', '32'], 'no bit 32 in a word'),
+    (['flip-all', '1', '7'], "no place '1' in the block"),
     (['rubbish', '-1'], '-1 is below 0'),
 ]
 
@@ -69,6 +74,15 @@ def try_kinds():
     expect('every script makes a sample', scripts == there, (scripts, there))
     flipped = damage('flip', '3', 'PC', '0')[1]
     expect('a bit that is turned over twice', damage('flip', '3', 'PC', '0', given=flipped) == (0, HONEST, b''))
+    every = HONEST
+    for step in range(1, 10):
+        every = damage('flip', str(step), 'MVBAR', '31', given=every)[1]
+    at = START_SIZE - 1  # of the Start, the last byte
+    every = every[:at] + bytes([every[at] ^ 0x80]) + every[at + 1:]
+    expect('a bit of every block', damage('flip-all', 'MVBAR', '31') == (0, every, b''))
+    first = damage('flip-all', 'R8_usr', '0')[1]
+    expect('and of its first word, in the Start too', first[START_BLOCK] == HONEST[START_BLOCK] ^ 1 and
+           sum(one != other for one, other in zip(first, HONEST)) == 10)
     expect('a sum wraps', damage('add', '1', 'R8_usr', '0x100000000') == (0, HONEST, b''))
     expect('a cut of nothing, and of everything', (damage('cut', '0')[1], damage('cut', '1992')[1]) == (b'', HONEST))
 

@@ -51,9 +51,12 @@ static void show_numbers(void)
 {
     char name[64];
 
-    for (uint32_t number = 0; number < NUMBERS; number++) {
+    for (uint32_t number = 0; number < STEP_NUMBERS; number++) {
         snprintf(name, sizeof name, "number %" PRIu32 " %s", number, pomurica_number_name(number));
-        show(name, met.number[number]);
+        if (is_of_step(number))
+            show(name, met.number[number]);
+        else
+            check(met.number[number] == 0, "%s: met %lu times", name, met.number[number]);
     }
     printf("  %-30s %9lu\n", "steps", met.steps);
     check(2 * met.done >= met.steps, "%lu of %lu steps done, fewer than half", met.done, met.steps);
@@ -97,6 +100,45 @@ static void show_ways(void)
 
     for (uint32_t way = 0; way < WAYS; way++)
         show(WAY[way], met.way[way]);
+}
+
+/* Prints a row of calls, then checks that each ended as it has to, and often enough; due has a letter for each column. */
+static void show_calls_from(const char *name, const char *const *columns, const char *due,
+                            const unsigned long (*times)[CALL_ENDS])
+{
+    static const char LETTERS[CALL_ENDS] = {
+        [CALL_NOT_HERE] = 'n', [CALL_TAKEN] = 't', [CALL_TRAPPED] = 'h', [CALL_DISABLED] = 'd',
+    };
+
+    printf("  %-12s", name);
+    for (uint32_t bits = 0; bits < CALL_BITS; bits++)
+        for (uint32_t end = 0; end < CALL_ENDS; end++)
+            if (due[bits] == LETTERS[end])
+                printf(" %9lu %c", times[bits][end], due[bits]);
+    printf("\n");
+    for (uint32_t bits = 0; bits < CALL_BITS; bits++)
+        for (uint32_t end = 0; end < CALL_ENDS; end++)
+            check(due[bits] == LETTERS[end] ? times[bits][end] >= seldom : times[bits][end] == 0,
+                  "%s, %s: %c %lu times", name, columns[bits], LETTERS[end], times[bits][end]);
+}
+
+/* By the bits of which each is 1 (enum call_bits). */
+static void show_calls(void)
+{
+    static const char *const COLUMNS[CALL_BITS] = { "none", "HCE", "SCD", "SCD HCE", "TSC", "TSC HCE", "TSC SCD", "all three" };
+    static const char *const KINDS[CALL_KINDS] = { "SMC from", "HVC from" };
+    static const char *const NAMES[CALLERS] = { "User", "Monitor", "Secure", "NS EL1", "Hyp" };
+    static const char *const DUE[CALL_KINDS][CALLERS] = {
+        { "nnnnnnnn", "ttddttdd", "ttddttdd", "ttddhhhh", "ttddttdd" },
+        { "nnnnnnnn", "nnnnnnnn", "nnnnnnnn", "dtdtdtdt", "dtdtdtdt" },
+    };
+
+    printf("\n  calls by SCR.HCE, SCR.SCD and HCR.TSC: n NOT_HERE, t taken, h trapped to Hyp, d DISABLED");
+    for (uint32_t kind = 0; kind < CALL_KINDS; kind++) {
+        show_heads(KINDS[kind], COLUMNS, CALL_BITS);
+        for (uint32_t caller = 0; caller < CALLERS; caller++)
+            show_calls_from(NAMES[caller], COLUMNS, DUE[kind][caller], met.call[kind][caller]);
+    }
 }
 
 /* Of Hyp and Monitor there is no V, and an entry to Hyp clears no NS. */
@@ -231,6 +273,7 @@ void show_met(unsigned long millions)
     show_numbers();
     show_taken();
     show_ways();
+    show_calls();
     show_targets();
     show_notes();
     show_operands();

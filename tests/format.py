@@ -1,4 +1,4 @@
-"""docs/FORMAT.md's drawn trace, put together and judged, and its numbers held against the header's.
+"""docs/FORMAT.md's drawn trace, put together and judged, and its numbers and the README's held against the header's.
 
     format.py CONSOLE...
 
@@ -13,6 +13,7 @@ import tempfile
 ROOT = pathlib.Path(__file__).resolve().parent.parent
 PAGE = (ROOT / "docs/FORMAT.md").read_text()
 HEADER = (ROOT / "host/pomurica.h").read_text()
+README = (ROOT / "README.md").read_text()
 
 ROW = re.compile(r"^ +(\d+)  ((?:[0-9A-F]{2} )+|00 x \d+) +\S", re.MULTILINE)
 
@@ -88,6 +89,17 @@ def check_places(numbers):
     check(found == list(range(44)), "the 44 places stand in the header's order")
 
 
+def check_numbers():
+    """The README's table of numbers against the header's, and against the names that the header tells them by."""
+    numbers = re.findall(r"POMURICA_(\w+) = (\d+)", HEADER.split("enum pomurica_number {")[1].split("}")[0])
+    named = dict(re.findall(r'case POMURICA_(\w+): return "(\w+)";', HEADER))
+    rows = re.findall(r"^\| (\d+) (\w+)", README.split("## The numbers")[1].split("###")[0], re.MULTILINE)
+    listed = list(dict.fromkeys((name, number) for number, name in rows))  # 0 DONE has two rows
+    check(listed == numbers and [int(number) for _, number in numbers] == list(range(len(numbers))),
+          f"the README has the header's numbers, 0 to {len(numbers) - 1}")
+    check(named == {name: name for name, _ in numbers}, "and each has its name")
+
+
 def main():
     console = sys.argv[1:]
     trace = drawn_trace()
@@ -102,6 +114,7 @@ def main():
     wrong = [row for row in rows if numbers.get(header_name(*row[:2]), 31 if row[1] == "mode" else None) != row[2]]
     check(len(rows) > 40 and not wrong, f"the {len(rows)} fields of the table of bits are the header's {wrong or ''}")
     check_places(numbers)
+    check_numbers()
     codes = re.findall(r"^\| (\d+) \| (.*?)[,:|]", PAGE.split("## The event")[1].split("## The answer")[0], re.MULTILINE)
     check([int(code) for code, _ in codes] == list(range(1, 13)), "the twelve codes, in order")
     print(f"{sum(results)} passed, {len(results) - sum(results)} failed")

@@ -134,6 +134,35 @@ static void count_done(const struct event *event, const struct steering *before,
         count_entry(event, before, value, bytes_of(&call->block));
 }
 
+static enum caller caller_of(const struct steering *before)
+{
+    switch (before->mode) {
+    case MODE_USER: return FROM_USER;
+    case MODE_MONITOR: return FROM_MONITOR;
+    case MODE_HYP: return FROM_HYP;
+    default: return before->non_secure ? FROM_NS_EL1 : FROM_SECURE;
+    }
+}
+
+/* Of those that are done, an SMC that enters Hyp was trapped. */
+static enum call_end end_of(enum call_kind kind, const struct call *call)
+{
+    const uint32_t target = get_word(bytes_of(&call->answer) + 4) >> 8 & CPSR_MODE;
+
+    if (call->number != DONE)
+        return call->number == DISABLED ? CALL_DISABLED : CALL_NOT_HERE;
+    return kind == CALL_SMC && target == MODE_HYP ? CALL_TRAPPED : CALL_TAKEN;
+}
+
+/* An SMC or an HVC without operands, on a good block. */
+static void count_call(enum call_kind kind, const struct steering *before, const struct call *call)
+{
+    const uint32_t bits = ((before->scr & SCR_HCE) != 0 ? WITH_HCE : 0u) | ((before->scr & SCR_SCD) != 0 ? WITH_SCD : 0u) |
+                          ((before->hcr & HCR_TSC) != 0 ? WITH_TSC : 0u);
+
+    met.call[kind][caller_of(before)][bits][end_of(kind, call)]++;
+}
+
 /* Operands at the ends of their ranges, on a good block; the other operand is in its range. */
 static void count_operands(const struct event *event)
 {
@@ -209,6 +238,8 @@ void count_step(const struct question *question, const struct call *call)
         met.judged[event->code][before.mode]++;
         if (event->code == CODE_BANKED_READ || event->code == CODE_BANKED_WRITE)
             count_access(event, &before, number);
+        if (event->code == CODE_SMC || event->code == CODE_HVC)
+            count_call(event->code == CODE_SMC ? CALL_SMC : CALL_HVC, &before, call);
     }
     if (number == DONE)
         count_done(event, &before, call);

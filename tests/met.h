@@ -1,17 +1,18 @@
 /*
  * What a comparison of steps met, and how often: numbers, entries and the ways
- * to them, operands at the ends of their ranges, notes refused for the block
- * they would make, and every right to a banked register.
+ * to them, calls by the bits that decide them, operands at the ends of their
+ * ranges, notes refused for the block they would make, and every right to a
+ * banked register.
  */
 #ifndef MET_H
 #define MET_H
 
+#include "numbers.h"
 #include "question.h"
 
 #include "../second/words.h"
 
 enum {
-    NUMBERS = NO_RIGHT + 1,
     WHICH_COUNT = 7,
     MODE_NUMBERS = 32,
     ROWS = 7, /* of the masking table (document 01, "The interrupt check") */
@@ -26,6 +27,24 @@ enum way {
     STAGE_2_TO_HYP,
     UNDEFINED_BY_TGE, SVC_BY_TGE, PREFETCH_ABORT_BY_TGE, DATA_ABORT_BY_TGE, INTERRUPT_BY_TGE,
     WAYS
+};
+
+/* SMC and HVC, from where, by the bits that decide them, and what came of it. */
+enum call_kind {
+    CALL_SMC, CALL_HVC,
+    CALL_KINDS
+};
+enum caller {
+    FROM_USER, FROM_MONITOR, FROM_SECURE, FROM_NS_EL1, FROM_HYP, /* Secure: any other mode with NS 0 */
+    CALLERS
+};
+enum call_bits {
+    WITH_HCE = 1, WITH_SCD = 2, WITH_TSC = 4,
+    CALL_BITS = 8
+};
+enum call_end {
+    CALL_NOT_HERE, CALL_TAKEN, CALL_TRAPPED, CALL_DISABLED,
+    CALL_ENDS
 };
 
 /* The words by which a note can spoil a block, and what is then wrong with it. */
@@ -51,13 +70,14 @@ enum right {
 /* How often each thing was met. */
 struct met {
     unsigned long steps, done;
-    unsigned long number[NUMBERS];
+    unsigned long number[STEP_NUMBERS];
     unsigned long judged[CODES][MODE_NUMBERS]; /* by code and mode: good block, known event */
     unsigned long target[MODE_NUMBERS];
     unsigned long ns_cleared[MODE_NUMBERS]; /* by target */
     unsigned long high[MODE_NUMBERS][2];    /* by target and NS after: vectors at 0xFFFF0000 */
     unsigned long which[WHICH_COUNT];
     unsigned long way[WAYS + 1];
+    unsigned long call[CALL_KINDS][CALLERS][CALL_BITS][CALL_ENDS];
     unsigned long nothing_taken;
     unsigned long row[ROWS]; /* an exception is pending, its mask bit is 1, the row decides */
     unsigned long by_tge_alone[ROWS]; /* the same, M being 1 by TGE and not by its own bit */

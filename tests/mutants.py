@@ -7,6 +7,7 @@ import tempfile
 
 SCRIPT = os.path.abspath(sys.argv[1])
 # B 1 allowed for each of codes 1 to 10; a mask not set, a refusal gone, a condition turned round, a label gone; a wrong count.
+# Of a disabled call: the refusal gone, the trap forgotten, SMC by the bit of HVC, HVC by the bit of SMC.
 # Of the batch: an answer too many, more events than answers, an event left out.
 # Of the counts: a code too few, refused Steps counted as done, a sum that just fits, room that just does.
 # Of a session: the most Steps refused, a byte too many held, a head judged too often, a block kept, a feeding after closing.
@@ -20,6 +21,10 @@ KILLED = [
     'offset_of: if ([[target == MODE_HYP && mode_of(block) != MODE_HYP && exception != IRQ && exception != FIQ => not]])',
     'act: [[case CODE_NOTE: => ]]',
     'second_step: if (number == DONE [[&& => ||]] code == CODE_NOTE)',
+    'refusal_of: [[return DISABLED => ]];',
+    'is_disabled: return !is_smc_trapped(block) [[&& => ||]] is_one(block, SCR, SCR_SCD);',
+    'is_disabled: return !is_smc_trapped(block) && is_one(block, SCR, [[SCR_SCD => SCR_HCE]]);',
+    'is_disabled: return !is_one(block, SCR, [[SCR_HCE => SCR_SCD]]);',
     'judge: if (n [[> => >=]] MOST_STEPS) {',
     'second_batch: for (size_t i = 0; i [[< => <=]] events_len; i++)',
     'second_batch: if (events_len [[!= => <]] answers_len || block_len != BLOCK_SIZE)',

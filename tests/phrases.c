@@ -1,7 +1,8 @@
 /*
  * The words that host/phrases.c and host/status.c have, held against the step:
  * the register that each A of a banked access names is the one that the step
- * reads and writes, and an event is said to be bad where the step refuses it.
+ * reads and writes, an event is said to be bad where the step refuses it, and a
+ * call to be disabled where the step says so.
  */
 #define _POSIX_C_SOURCE 200809L
 
@@ -214,6 +215,106 @@ static void try_status_words(void)
               register_name(place));
 }
 
+/* A Step behind the block before it, as both lie in a trace. */
+struct in_trace {
+    uint8_t bytes[POMURICA_BLOCK_SIZE + POMURICA_STEP_SIZE];
+};
+
+static struct in_trace step_after(uint32_t code, uint32_t mode, uint32_t scr, uint32_t hcr)
+{
+    struct in_trace step = { { 0 } };
+
+    fill_block(step.bytes, mode, scr);
+    pomurica_put_word(step.bytes, POMURICA_PLACE_HCR, hcr);
+    pomurica_put_word(step.bytes + POMURICA_BLOCK_SIZE, POMURICA_STEP_CODE, code);
+    return step;
+}
+
+static void expect_outcome(const struct in_trace *step, uint32_t number, uint32_t value, const char *due)
+{
+    char *said = NULL;
+    size_t length = 0;
+    FILE *const out = open_memstream(&said, &length);
+
+    if (!check(out != NULL, "no memory"))
+        return;
+    tell_outcome(out, step->bytes + POMURICA_BLOCK_SIZE, number, value);
+    fclose(out);
+    check(strcmp(said, due) == 0, "said: %s; due: %s", said, due);
+    free(said);
+}
+
+static void try_outcomes(void)
+{
+    const struct in_trace interrupt = step_after(POMURICA_EVENT_INTERRUPT_CHECK, POMURICA_MODE_SUPERVISOR, 0, 0);
+    const struct in_trace read = step_after(POMURICA_EVENT_BANKED_READ, POMURICA_MODE_SUPERVISOR, 0, 0);
+    const struct in_trace note = step_after(POMURICA_EVENT_NOTE, POMURICA_MODE_SUPERVISOR, 0, 0);
+
+    expect_outcome(&interrupt, POMURICA_DONE, 0x31218, "IRQ: enters IRQ mode at 0x18");
+    expect_outcome(&interrupt, POMURICA_DONE, 0, "takes nothing");
+    expect_outcome(&read, POMURICA_DONE, 7, "reads 0x00000007");
+    expect_outcome(&read, POMURICA_NO_RIGHT, 0, "refused with 7 NO_RIGHT");
+    expect_outcome(&note, POMURICA_DONE, 0, "written");
+}
+
+/* The bits that the words of a disabled call go by, in every combination, and that of the trap which goes before SCD. */
+enum { NS_SET = 1, SCD_SET = 2, HCE_SET = 4, TSC_SET = 8, COMBINATIONS = 16 };
+
+/* One call from one mode: what the step answers is told, and as disabled exactly where it is, by the bit that does it. */
+static bool try_call(uint32_t code, uint32_t mode, unsigned set)
+{
+    const uint32_t scr = (set & NS_SET ? POMURICA_SCR_NS : 0) | (set & SCD_SET ? POMURICA_SCR_SCD : 0) |
+                         (set & HCE_SET ? POMURICA_SCR_HCE : 0);
+    const struct in_trace step = step_after(code, mode, scr, set & TSC_SET ? POMURICA_HCR_TSC : 0);
+    uint8_t block[POMURICA_BLOCK_SIZE], answer[POMURICA_ANSWER_SIZE];
+    char due[80];
+    uint32_t number;
+
+    memcpy(block, step.bytes, sizeof block);
+    number = pomurica_step(block, sizeof block, code, 0, 0, answer, sizeof answer);
+    if (number == POMURICA_DONE)
+        return false;
+    snprintf(due, sizeof due, "refused with %u %s", (unsigned)number, pomurica_number_name(number));
+    if (number == POMURICA_DISABLED) {
+        check((code == POMURICA_EVENT_HVC) ? !(set & HCE_SET) : (set & SCD_SET) != 0, "disabled in mode %x by no bit",
+              (unsigned)mode);
+        strcat(due, code == POMURICA_EVENT_HVC ? " (HVC is disabled: SCR.HCE is 0)" : " (SMC is disabled: SCR.SCD is 1)");
+    }
+    expect_outcome(&step, number, 0, due);
+    return number == POMURICA_DISABLED;
+}
+
+/* Both calls from every mode, with every combination of the bits. */
+static void try_calls(void)
+{
+    unsigned disabled[POMURICA_EVENT_HVC + 1] = { 0 };
+
+    for (uint32_t code = POMURICA_EVENT_SMC; code <= POMURICA_EVENT_HVC; code++)
+        for (size_t i = 0; i < COUNT_OF(MODES); i++)
+            for (unsigned set = 0; set < COMBINATIONS; set++)
+                disabled[code] += try_call(code, MODES[i], set);
+    /*
+     * With SCD 1, and HCE and TSC any: Secure FIQ, IRQ, Supervisor, Abort, Undefined and System, Monitor whatever NS says, and
+     * Non-secure Hyp; the six Non-secure with TSC 0 only.  With HCE 0, and SCD and TSC any: the six Non-secure, and Hyp.
+     */
+    check(disabled[POMURICA_EVENT_SMC] == (6 + 2 + 1) * 4 + 6 * 2, "SMC is disabled %u times",
+          disabled[POMURICA_EVENT_SMC]);
+    check(disabled[POMURICA_EVENT_HVC] == (6 + 1) * 4, "HVC is disabled %u times", disabled[POMURICA_EVENT_HVC]);
+}
+
+/* A Step that nobody judged may show 16 where no bit disables a call: then there is no reason to tell. */
+static void try_unjudged(void)
+{
+    static const char NO_REASON[] = "refused with 16 DISABLED";
+    const struct in_trace hvc = step_after(POMURICA_EVENT_HVC, POMURICA_MODE_SUPERVISOR, POMURICA_SCR_NS | POMURICA_SCR_HCE, 0);
+    const struct in_trace smc = step_after(POMURICA_EVENT_SMC, POMURICA_MODE_SUPERVISOR, POMURICA_SCR_NS, 0);
+    const struct in_trace svc = step_after(POMURICA_EVENT_SVC, POMURICA_MODE_SUPERVISOR, POMURICA_SCR_NS | POMURICA_SCR_SCD, 0);
+
+    expect_outcome(&hvc, POMURICA_DISABLED, 0, NO_REASON);
+    expect_outcome(&smc, POMURICA_DISABLED, 0, NO_REASON);
+    expect_outcome(&svc, POMURICA_DISABLED, 0, NO_REASON);
+}
+
 int main(void)
 {
     group("each A, 0 to 63, names the register that the step reads and writes");
@@ -225,6 +326,11 @@ int main(void)
     try_bad_operands();
     group("an event is said to be bad exactly where the step answers BAD_EVENT");
     try_events();
+    group("what is said to come of an event");
+    try_outcomes();
+    group("a call is said to be disabled, and why, exactly where the step answers DISABLED");
+    try_calls();
+    try_unjudged();
     group("the fields in which a status word differs");
     try_fields();
     try_status_words();

@@ -373,6 +373,11 @@ def try_check():
     refused = run('--check', os.path.join(SAMPLES, 'refused-event.script'))[1].decode().splitlines()
     expect('refused events have number and name',
            [line.rpartition('; ')[2] for line in refused] == ['refused with 5 NOT_HERE', 'refused with 7 NO_RIGHT'], refused)
+    disabled = run('--check', os.path.join(SAMPLES, 'disabled-calls.script'))[1].decode().splitlines()
+    expect('disabled calls have the reason too, and Undefined in their places is taken',
+           [line.rpartition('; ')[2] for line in disabled if ': note: ' not in line] ==
+           ['refused with 16 DISABLED (HVC is disabled: SCR.HCE is 0)', 'enters Undefined mode at 0x04',
+            'refused with 16 DISABLED (SMC is disabled: SCR.SCD is 1)', 'enters Undefined mode at 0x04'], disabled)
     expect_run('--check of no event', ['--check', write('script', b'SCR = 1\n')], 0, b'')
 
 

@@ -173,6 +173,19 @@ static struct step step_from(const struct row *row, uint32_t code, uint32_t a, u
     return step;
 }
 
+/*
+ * No. 8: whether the row is of a call that SCD or HCE stops.  A row in which the core took such a call would be taken out by
+ * this rule.  There is none of either kind: all calls were recorded with SCD 0 and HCE 1, and the rows stay as they are.
+ */
+static bool is_disabled(const struct row *row)
+{
+    const uint32_t scr = pomurica_get_word(row->before, POMURICA_PLACE_SCR);
+
+    if (row->code == POMURICA_EVENT_SMC)
+        return (scr & POMURICA_SCR_SCD) != 0;
+    return row->code == POMURICA_EVENT_HVC && (scr & POMURICA_SCR_HCE) == 0;
+}
+
 /* Answer numbers: a refusal of the call or access is 5, 6 or 7, value 0, block unchanged. */
 static void check_refused(const struct row *row)
 {
@@ -216,9 +229,12 @@ static void check_row(const struct row *row)
     }
 }
 
+/* How many rows are of calls. */
+#define CALLS 36
+
 static void check_rows(FILE *file)
 {
-    unsigned rows[OUTCOMES] = { 0 };
+    unsigned rows[OUTCOMES] = { 0 }, calls = 0;
     char line[LINE_SIZE];
     struct row row;
 
@@ -229,12 +245,16 @@ static void check_rows(FILE *file)
             continue;
         check_row(&row);
         rows[row.outcome]++;
+        calls += row.code == POMURICA_EVENT_SMC || row.code == POMURICA_EVENT_HVC;
+        check(!is_disabled(&row), "line %u: a disabled call", row.line);
     }
     check(!ferror(file), "%s", strerror(errno));
     for (uint32_t i = 0; i < OUTCOMES; i++) {
         printf("  %-8s %4u rows\n", OUTCOME[i], rows[i]);
         check(rows[i] != 0, "no row `%s`", OUTCOME[i]);
     }
+    printf("  %-8s %4u rows, none with SCD 1 or HCE 0\n", "calls", calls);
+    check(calls == CALLS, "%u rows of calls, not %u", calls, CALLS);
 }
 
 int main(int argc, char **argv)

@@ -14,7 +14,8 @@ def any_of(*patterns):
 # The parts of sentences: numbers, names, and what is told of a Step.
 NUMBER, COUNT, BYTE, WORD = '[0-9]+', '[0-9]{1,3}(,[0-9]{3})*', '0x[0-9A-F]{2}', '0x[0-9A-F]{8}'
 ANSWER = f'{NUMBER} ' + any_of(*'DONE BAD_SIZE BAD_MODE BAD_STATE BAD_EVENT NOT_HERE NO_REGISTER NO_RIGHT SHORT BAD_RECORD '
-                               'BAD_COUNT WRONG_STEP TRAILING FULL NO_ROOM UNKNOWN'.split())
+                               'BAD_COUNT WRONG_STEP TRAILING FULL CLOSED NO_ROOM DISABLED UNKNOWN'.split())
+WHY = any_of(r'HVC is disabled: SCR\.HCE is 0', r'SMC is disabled: SCR\.SCD is 1')
 REGISTER = any_of(*REGISTERS)
 BANKED = any_of(*REGISTERS[:REGISTERS.index('CPSR')], r'no register \(R [01] SYSm 0x[01][0-9A-F]\)')
 RECORD = any_of('the Start', 'a Step', 'the End')
@@ -30,7 +31,7 @@ EVENT = any_of('Undefined Instruction', 'SVC', 'SMC', 'HVC', 'Hyp Trap', 'Monito
 EVENT += f'(, A {NUMBER}, which must be 0)?(, B {NUMBER}, which must be 0)?'
 STATE = (any_of(f'(Secure|Non-secure) {MODE}', 'Monitor with NS [01]', f'mode {BYTE}, which is none') +
          any_of(', nothing masked', ', masked A( I)?( F)?', ', masked I( F)?', ', masked F'))
-OUTCOME = any_of(f'refused with {ANSWER}', f'reads {WORD}', 'written', 'takes nothing',
+OUTCOME = any_of(f'refused with {ANSWER}', rf'refused with 16 DISABLED \({WHY}\)', f'reads {WORD}', 'written', 'takes nothing',
                  f'((virtual )?(SError|FIQ|IRQ): )?enters ({MODE}|no) mode at {BYTE}')
 
 VALUE = any_of('set', 'clear', BYTE, MODE)

@@ -1,8 +1,8 @@
 """Long honest traces with every kind of thing in them: walks through the modes, made of Steps whose answer is plain.
 
 The start block is all zero but for CPSR, so HCR routes nothing to Hyp, every vector stands at 0, and of document 01's rules a
-few are enough: a note is done where the block that it makes is good, SMC enters Monitor from any mode but User, an interrupt
-check without a line takes nothing.
+few are enough: a note is done where the block that it makes is good, SMC enters Monitor from any mode but User, unless SCD
+disables it (No. 8), an interrupt check without a line takes nothing.
 """
 import random
 import struct
@@ -14,10 +14,10 @@ R8_USR, LR_MON, ELR_HYP, SPSR_MON, CPSR, PC, SCR = 0, 22, 24, 31, 33, 34, 35
 MODES = USER, FIQ, IRQ, SUPERVISOR, MONITOR, ABORT, HYP, UNDEFINED, SYSTEM = (
     0x10, 0x11, 0x12, 0x13, 0x16, 0x17, 0x1A, 0x1B, 0x1F)
 NO_MODE = 0x15
-MODE_BITS, NS = 0x1F, 1
+MODE_BITS, NS, SCD = 0x1F, 1, 1 << 7
 SMC, INTERRUPT_CHECK, BANKED_READ, BANKED_WRITE, NO_EVENT = 3, 9, 10, 11, 13
 ELR_HYP_CELL, NO_CELL = 30, 7
-DONE, BAD_MODE, BAD_STATE, BAD_EVENT, NOT_HERE, NO_REGISTER, NO_RIGHT = 0, 2, 3, 4, 5, 6, 7
+DONE, BAD_MODE, BAD_STATE, BAD_EVENT, NOT_HERE, NO_REGISTER, NO_RIGHT, DISABLED = 0, 2, 3, 4, 5, 6, 7, 16
 LONGEST_STAY = 30
 
 
@@ -55,8 +55,8 @@ class Walk:
         self.record(NOTE, place, word, number)
 
     def call_monitor(self):
-        if self.mode() == USER:
-            self.record(SMC, 0, 0, NOT_HERE)
+        if self.mode() == USER or self.block[SCR] & SCD:
+            self.record(SMC, 0, 0, NOT_HERE if self.mode() == USER else DISABLED)
             return
         if self.mode() == MONITOR:
             self.block[SCR] &= ~NS
@@ -87,7 +87,7 @@ class Walk:
         self.chance.choice([
             self.call_monitor,
             lambda: self.note(CPSR, self.chance.choice(MODES)),
-            lambda: self.note(SCR, self.block[SCR] ^ NS),
+            lambda: self.note(SCR, self.block[SCR] ^ self.chance.choice((NS, NS, NS, SCD))),
         ])()
 
     def go(self, count):

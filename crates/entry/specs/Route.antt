@@ -4,9 +4,9 @@ use mathlib.Core.Bool.{Bool, true, false, not, _&&_, _||_}
 use mathlib.Core.List.{List, [], _∷_}
 use Prim.Native.Nat.{ℕ, _+_, _%_, _^_}
 use Rattle.state.specs.Choice.{if_then_else_, _is_, _among_}
-use Rattle.state.specs.Field.{mode-field, CPSR-T, SCR-EA, HCR-TSC, HCR-TGE}
+use Rattle.state.specs.Field.{mode-field, CPSR-T, SCR-EA, SCR-SCD, SCR-HCE, HCR-TSC, HCR-TGE}
 use Rattle.state.specs.Mode.{USER, SUPERVISOR, MONITOR, ABORT, HYP, UNDEFINED}
-use Rattle.state.specs.Number.{NOT-HERE}
+use Rattle.state.specs.Number.{NOT-HERE, DISABLED}
 use Rattle.state.specs.State.{secure, nsEl1, nsUser}
 use Rattle.entry.specs.Code.{UNDEFINED-INSTRUCTION, SVC, SMC, HVC, PREFETCH-ABORT, DATA-ABORT, HYP-TRAP}
 use Rattle.entry.specs.Code.{MONITOR-TRAP, isSynchronous, isAbort, isGeneral, external, stage2}
@@ -104,8 +104,16 @@ notHere code a cpsr scr =
     || ((code is MONITOR-TRAP && mode-field cpsr is MONITOR)
     || ((code is HYP-TRAP || (isAbort code && stage2 a)) && (secure cpsr scr || mode-field cpsr is HYP))))
 
+-- DISABLED (document 02, No. 8): SMC with SCR.SCD 1, unless HCR.TSC traps it, "since Arm tests the trap first"; HVC with SCR.HCE 0,
+-- from Hyp too
+unfoldable pub disabled : ℕ → ℕ → ℕ → ℕ → Bool
+disabled code cpsr scr hcr =
+    (code is SMC && (SCR-SCD scr && not (trapped code cpsr scr hcr)))
+    || (code is HVC && not (SCR-HCE scr))
+
 -- what an event comes to; one that is not synchronous has no way of its own
 unfoldable pub way : ℕ → ℕ → ℕ → ℕ → ℕ → ℕ → Way
 way code a cpsr scr hcr pc =
     if not (isSynchronous code) || notHere code a cpsr scr then Barred NOT-HERE else
+    if disabled code cpsr scr hcr then Barred DISABLED else
     Enter (target code a cpsr scr hcr) (offset code a cpsr scr hcr) (link code a cpsr scr hcr pc)

@@ -8,10 +8,10 @@ use lib.Dec.{eqb}
 use lib.ListN.{replicate}
 use Rattle.words.specs.Word.{spelt, word, put}
 use Rattle.state.specs.Mode.{known, el1, guest, spsrPlace, lrPlace}
-use Rattle.state.specs.Number.{DONE, NO-REGISTER, NO-RIGHT}
+use Rattle.state.specs.Number.{DONE, NOT-HERE, NO-REGISTER, NO-RIGHT, DISABLED}
 use Rattle.state.specs.Place.{BLOCK-SIZE, LR-irq, LR-svc, LR-abt, LR-mon, ELR-hyp, CPSR, PC, SCR, HCR, VBAR-ns}
 use Rattle.state.specs.State.{good}
-use Rattle.entry.specs.Code.{SVC, SMC}
+use Rattle.entry.specs.Code.{SVC, SMC, HVC}
 use Rattle.entry.specs.Enter.{nsCleared, masksAfter, cpsrAfter, vectorBase, written, entered}
 use Rattle.entry.specs.Route as synchronous
 use Rattle.interrupts.specs.Check as interrupt
@@ -103,7 +103,7 @@ cases =
 pub starred : all cases ≡ true
 unfolding spelt put known el1 guest spsrPlace lrPlace good nsCleared masksAfter cpsrAfter vectorBase written entered
     synchronous.toMonitor synchronous.toHyp synchronous.target synchronous.offset synchronous.link
-    synchronous.notHere synchronous.way interrupt.found interrupt.way obeyed pending masked takeable cell denied
+    synchronous.notHere synchronous.disabled synchronous.way interrupt.found interrupt.way obeyed pending masked takeable cell denied
     right badEvent refusal doneAction action answer after value
 starred = refl
 
@@ -121,6 +121,39 @@ under-tge =
 pub tge-acts : all under-tge ≡ true
 unfolding spelt put known el1 guest spsrPlace lrPlace good nsCleared masksAfter cpsrAfter vectorBase written entered
     synchronous.toMonitor synchronous.toHyp synchronous.target synchronous.offset synchronous.link
-    synchronous.notHere synchronous.way interrupt.found interrupt.way obeyed pending masked takeable cell denied
+    synchronous.notHere synchronous.disabled synchronous.way interrupt.found interrupt.way obeyed pending masked takeable cell denied
     right badEvent refusal doneAction action answer after value
 tge-acts = refl
+
+-- ---- No. 8 of document 02
+
+-- a call that is refused: start, code, number
+abbrev refuses : Words → ℕ → ℕ → Case
+refuses start code number = record { start = start; code = code; a = 0; number = number; told = 0; left = start }
+
+abbrev calls : List Case
+calls =
+    -- "SMC from Non-secure state with SCR.SCD (bit 7) 1", from Supervisor, and from Hyp, where TSC does not trap
+    refuses (with 0x81 0x13) SMC DISABLED
+    ∷ refuses ((HCR, 0x80000) ∷ with 0x81 0x1A) SMC DISABLED
+    -- "Secure SMC with SCD 1", also from Monitor with NS 1
+    ∷ refuses (with 0x80 0x13) SMC DISABLED
+    ∷ refuses (with 0x81 0x16) SMC DISABLED
+    -- "An SMC from NS EL1 with TSC 1 is still trapped to Hyp"
+    ∷ gives ((HCR, 0x80000) ∷ with 0x81 0x13) SMC 0 0x1A14 ((ELR-hyp, 0x8000) ∷ [])
+    -- "HVC with SCR.HCE (bit 8) 0", and "from Hyp with HCE 0"; with HCE 1 both are taken
+    ∷ refuses (with 1 0x13) HVC DISABLED
+    ∷ refuses (with 1 0x1A) HVC DISABLED
+    ∷ gives (with 0x101 0x13) HVC 0 0x1A14 ((ELR-hyp, 0x8004) ∷ [])
+    ∷ gives (with 0x101 0x1A) HVC 0 0x1A08 ((ELR-hyp, 0x8004) ∷ [])
+    -- "NOT_HERE goes before it"
+    ∷ refuses (with 0x81 0x10) SMC NOT-HERE
+    ∷ refuses (with 1 0x10) HVC NOT-HERE
+    ∷ []
+
+pub calls-right : all calls ≡ true
+unfolding spelt put known el1 guest spsrPlace lrPlace good nsCleared masksAfter cpsrAfter vectorBase written entered
+    synchronous.toMonitor synchronous.toHyp synchronous.target synchronous.offset synchronous.link
+    synchronous.notHere synchronous.disabled synchronous.way interrupt.found interrupt.way obeyed pending masked takeable cell denied
+    right badEvent refusal doneAction action answer after value
+calls-right = refl

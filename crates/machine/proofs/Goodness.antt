@@ -113,10 +113,11 @@ module _ (b : List ℕ) (size : length b ≡ BLOCK-SIZE) (by : Bytes b) where
   -- where each exception goes it may stand
   synchronous-stands : (code a : ℕ) → fault b ≡ DONE → isSynchronous code ≡ true
       → synchronous.notHere code a (word b CPSR) (word b SCR) ≡ false
+      → synchronous.disabled code (word b CPSR) (word b SCR) (word b HCR) ≡ false
       → StandsWay (eventWay b code a)
   unfolding synchronous.way
-  synchronous-stands code a f s n =
-      rw (s, n) (
+  synchronous-stands code a f s n d =
+      rw (s, n, d) (
         target-is-one code a (word b CPSR) (word b SCR) (word b HCR),
         entry.target-stands code a (word b CPSR) (word b SCR) (word b HCR) (goods b f) s n,
       )
@@ -178,7 +179,7 @@ done-good b code a w bytes size f p =
     (λ o.
     let y = known-code code a w (p .event) o in
     way-good b size bytes Synchronous (eventWay b code a) f
-    (synchronous-stands b size bytes code a f y (rw y at (p .here))))
+    (synchronous-stands b size bytes code a f y (rw y at (p .here)) (rw y at (p .able))))
 
 -- a done step on a good block leaves a good block; a block that is not good is always refused
 pub good-stays : (b : List ℕ) (e : Event) → Bytes b → refusal b e ≡ DONE → (fault b ≡ DONE) × (fault (after b e) ≡ DONE)

@@ -74,9 +74,9 @@ length-after b e = step-keeps (λ c. length c ≡ length b) (λ c p w h. length-
 pub bytes-after : (b : List ℕ) (e : Event) → Bytes b → Bytes (after b e)
 bytes-after b e h = step-keeps Bytes bytes-put b e h
 
--- the numbers of a step are 0 to 7
+-- the numbers of a step are 0 to 7 and 16
 abbrev IsNumber : ℕ → Type 0
-IsNumber n = n < 8
+IsNumber n = n < 17
 
 right-number : (p cpsr scr : ℕ) → IsNumber (right p cpsr scr)
 unfolding right
@@ -85,20 +85,20 @@ right-number p cpsr scr = chosen IsNumber (denied p (mode-field cpsr) (secure cp
 -- the first row that applies has a number of one of the rows
 abbrev numbered : List Row → Bool
 numbered [] = true
-numbered (r ∷ rs) = ltb (r .number) 8 && numbered rs
+numbered (r ∷ rs) = ltb (r .number) 17 && numbered rs
 
 first-number : (rs : List Row) (last : ℕ) → numbered rs ≡ true → IsNumber last → IsNumber (firstOf rs last)
 first-number [] last h l = l
 first-number (r ∷ rs) last h l =
-    chosen IsNumber (r .applies) (ltb-true (r .number) 8 (and-left (ltb (r .number) 8) (numbered rs) h))
-    (first-number rs last (and-right (ltb (r .number) 8) (numbered rs) h) l)
+    chosen IsNumber (r .applies) (ltb-true (r .number) 17 (and-left (ltb (r .number) 17) (numbered rs) h))
+    (first-number rs last (and-right (ltb (r .number) 17) (numbered rs) h) l)
 
 refusal-number : (b : List ℕ) (e : Event) → IsNumber (refusal b e)
 unfolding refusal
 refusal-number b e =
     let r = right (cell (e .a)) (word b CPSR) (word b SCR) in
-    let small = lt-ltb r 8 (right-number (cell (e .a)) (word b CPSR) (word b SCR)) in
-    first-number (rows b e) DONE (both {a = ltb r 8} small refl) (lit< tt)
+    let small = lt-ltb r 17 (right-number (cell (e .a)) (word b CPSR) (word b SCR)) in
+    first-number (rows b e) DONE (both {a = ltb r 17} small refl) (lit< tt)
 
 -- a way that is not barred
 abbrev pub Enters : Way → Type 0
@@ -131,11 +131,12 @@ done-number b code a w p =
     (λ e. refl) (λ e. refl) (λ e. refl)
     (λ o.
     let y = known-code code a w (p .event) o in
-    way-number b Synchronous (eventWay b code a) (enters y (rw y at (p .here))))
+    way-number b Synchronous (eventWay b code a) (enters y (rw y at (p .here)) (rw y at (p .able))))
   where
     enters : isSynchronous code ≡ true → synchronous.notHere code a (word b CPSR) (word b SCR) ≡ false
+        → synchronous.disabled code (word b CPSR) (word b SCR) (word b HCR) ≡ false
         → Enters (eventWay b code a)
-    enters y n = rw (y, n) tt
+    enters y n d = rw (y, n, d) tt
 
 -- a done step answers DONE, and a refused one its number
 pub number-is : (b : List ℕ) (e : Event) → answer b e .number ≡ refusal b e
@@ -149,7 +150,7 @@ number-is b e = by (refusal b e is DONE) refl
         done-number b (e .code) (e .a) (e .b) (passed b e z) ∙ sym z
     by false h = refl
 
-pub number-small : (b : List ℕ) (e : Event) → answer b e .number < 8
+pub number-small : (b : List ℕ) (e : Event) → answer b e .number < 17
 number-small b e = rw (number-is b e) (refusal-number b e)
 
 pub number-fits : (b : List ℕ) (e : Event) → answer b e .number < 2 ^ 32

@@ -1,17 +1,19 @@
 -- What a step leaves, by the code of its event.
 use mathlib.Core.Path.{_≡_, refl, ap, _∙_}
-use mathlib.Core.Bool.{true, false}
+use mathlib.Core.Bool.{Bool, true, false, not, _&&_, _||_}
+use mathlib.Core.Logic.{_⊎_, inl, inr}
 use mathlib.Core.List.{List}
 use Prim.Native.Nat.{ℕ}
 use lib.ListN.{length}
-use borrow.Author.Tests.{eq-eqb, ne-eqb}
+use borrow.Author.Tests.{eq-eqb, ne-eqb, not-false}
 use Rattle.words.specs.Word.{word, put}
 use Rattle.state.specs.Choice.{_is_}
+use Rattle.state.specs.Field.{SCR-SCD, SCR-HCE}
 use Rattle.state.specs.Number.{DONE}
-use Rattle.state.specs.Place.{BLOCK-SIZE, CPSR, SCR}
+use Rattle.state.specs.Place.{BLOCK-SIZE, CPSR, SCR, HCR}
 use Rattle.banked.specs.Cell.{cell}
 use Rattle.rules.specs.Event.{BANKED-READ, BANKED-WRITE, NOTE}
-use Rattle.entry.specs.Code.{INTERRUPT-CHECK, isSynchronous}
+use Rattle.entry.specs.Code.{INTERRUPT-CHECK, SMC, HVC, isSynchronous}
 use Rattle.entry.specs.Route as synchronous
 use Rattle.state.proofs.Test.{true-is-not-false}
 use Rattle.rules.proofs.Deciding.{by-code}
@@ -30,6 +32,15 @@ pub refused-leaves : (b : List ℕ) (e : Event) → (refusal b e ≡ DONE → �
     → (answer b e ≡ refusedWith (refusal b e)) × (after b e ≡ b)
 unfolding answer after action
 refused-leaves b e h = let t = ne-eqb (refusal b e) DONE h in (rw t, rw t)
+
+-- an SMC that is trapped is not disabled
+pub trap-first : (cpsr scr hcr : ℕ) → synchronous.trapped SMC cpsr scr hcr ≡ true → synchronous.disabled SMC cpsr scr hcr ≡ false
+unfolding synchronous.disabled
+trap-first cpsr scr hcr h = rw h (barred (SCR-SCD scr))
+  where
+    barred : (d : Bool) → (d && false || false) ≡ false
+    barred true = refl
+    barred false = refl
 
 module _ (b : List ℕ) (e : Event) (done : refusal b e ≡ DONE) where
   done-is : action b e ≡ doneAction b e
@@ -61,13 +72,29 @@ module _ (b : List ℕ) (e : Event) (done : refusal b e ≡ DONE) where
   unfolding synchronous.way
   enters-as-routed y =
       let here : synchronous.notHere (e .code) (e .a) (word b CPSR) (word b SCR) ≡ false = rw y at (passed b e done .here) in
+      let able : synchronous.disabled (e .code) (word b CPSR) (word b SCR) (word b HCR) ≡ false = rw y at (passed b e done .able) in
       let goes = by-code (λ x. x ≡ Take Synchronous (target b e) (offset b e) (link b e)) b (e .code) (e .a) (e .b)
       (λ c. absurd (not-one INTERRUPT-CHECK refl c)) (λ c. absurd (not-one BANKED-READ refl c))
-      (λ c. absurd (not-one BANKED-WRITE refl c)) (λ c. absurd (not-one NOTE refl c)) (λ o. rw (y, here)) in
+      (λ c. absurd (not-one BANKED-WRITE refl c)) (λ c. absurd (not-one NOTE refl c)) (λ o. rw (y, here, able)) in
       record { answers = told ∙ ap (answerTo b) goes; leaves = left ∙ ap (blockAfter b) goes }
     where
       not-one : (k : ℕ) → isSynchronous k ≡ false → e .code ≡ k → ⊥
       not-one k n c = true-is-not-false y (ap isSynchronous c ∙ n)
+
+  -- a call that no row refuses has its bit as asked, or was trapped
+  smc-bits : (d t : Bool) → (d && not t || false) ≡ false → (d ≡ false) ⊎ (t ≡ true)
+  smc-bits true true h = inr refl
+  smc-bits true false h = absurd (true-is-not-false refl h)
+  smc-bits false t h = inl refl
+
+  pub smc-enabled : e .code ≡ SMC
+      → (SCR-SCD (word b SCR) ≡ false) ⊎ (synchronous.trapped SMC (word b CPSR) (word b SCR) (word b HCR) ≡ true)
+  unfolding synchronous.disabled
+  smc-enabled c = smc-bits _ _ (rw c at (passed b e done .able))
+
+  pub hvc-enabled : e .code ≡ HVC → SCR-HCE (word b SCR) ≡ true
+  unfolding synchronous.disabled
+  hvc-enabled c = not-false _ (rw c at (passed b e done .able))
 
   pub read-leaves : e .code ≡ BANKED-READ → after b e ≡ b
   unfolding doneAction

@@ -1,19 +1,20 @@
 -- What the step promises beyond its definition, each by name (docs/PROMISES.md): the numbers, what is left, the interrupt
 -- check, and what an entry leaves. The words of these statements are in specs/Claims.antt; the proofs stand in their own files.
 use mathlib.Core.Path.{_≡_, ap, _∙_}
-use mathlib.Core.Bool.{true}
+use mathlib.Core.Bool.{true, false}
 use mathlib.Core.List.{List}
-use mathlib.Core.Logic.{_↔_}
+use mathlib.Core.Logic.{_⊎_, _↔_}
 use Prim.Native.Nat.{ℕ}
 use lib.ListN.{length}
 use Rattle.words.specs.Word.{word, put, Bytes}
 use Rattle.words.proofs.Laws.{word-put-other}
-use Rattle.state.specs.Field.{bits, mode-field}
+use Rattle.state.specs.Field.{bits, mode-field, SCR-SCD, SCR-HCE}
 use Rattle.state.specs.Mode.{spsrPlace, lrPlace}
 use Rattle.state.specs.Number.{DONE}
 use Rattle.state.specs.Place.{BLOCK-SIZE, CPSR, PC, SCR, HCR}
 use Rattle.state.specs.State.{fault}
-use Rattle.entry.specs.Code.{isSynchronous}
+use Rattle.entry.specs.Code.{SMC, HVC, isSynchronous}
+use Rattle.entry.specs.Route.{trapped, disabled}
 use Rattle.entry.specs.Enter.{nsCleared, cpsrAfter, controlPlace, vectorBase, vector}
 use Rattle.interrupts.specs.Exception.{order}
 use Rattle.interrupts.specs.Kind.{Kind}
@@ -96,6 +97,18 @@ module _ (b : List ℕ) (e : Event) (done : refusal b e ≡ DONE) where
 
 pub enters-as-routed : (b : List ℕ) (e : Event) → refusal b e ≡ DONE → isSynchronous (e .code) ≡ true → EntersAsRouted b e
 enters-as-routed = leaving.enters-as-routed
+
+-- No. 8 of document 02: an SMC that is done had SCD 0, or was trapped by TSC; an HVC that is done had HCE 1
+pub smc-enabled : (b : List ℕ) (e : Event) → refusal b e ≡ DONE → e .code ≡ SMC
+    → (SCR-SCD (word b SCR) ≡ false) ⊎ (trapped SMC (word b CPSR) (word b SCR) (word b HCR) ≡ true)
+smc-enabled = leaving.smc-enabled
+
+-- and the trap goes before SCD: where it traps, SCD bars nothing
+pub trap-first : (cpsr scr hcr : ℕ) → trapped SMC cpsr scr hcr ≡ true → disabled SMC cpsr scr hcr ≡ false
+trap-first = leaving.trap-first
+
+pub hvc-enabled : (b : List ℕ) (e : Event) → refusal b e ≡ DONE → e .code ≡ HVC → SCR-HCE (word b SCR) ≡ true
+hvc-enabled = leaving.hvc-enabled
 
 -- ---- demand 2 of the interrupt check: of a step that no row refuses and whose code is 9
 

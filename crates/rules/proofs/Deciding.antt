@@ -184,21 +184,25 @@ module _ (b : List ℕ) (a w : ℕ) (size : length b ≡ BLOCK-SIZE) (good : fau
       let la : a < PLACES = leb-false PLACES a (note-in-range h) in
       rw (noted-fault la lw, s, k, g, h)
 
-  -- a synchronous event: not here, or on its way
+  -- a synchronous event: not here, disabled, or on its way
   pub at-synchronous : (code : ℕ) → badEvent code a w ≡ false → isSynchronous code ≡ true
       → takenBy Synchronous (eventWay b code a) ≡ action b (event code a w)
   unfolding action refusal doneAction synchronous.way
-  at-synchronous code h y = by (synchronous.notHere code a (word b CPSR) (word b SCR)) refl
+  at-synchronous code h y =
+      by (synchronous.notHere code a (word b CPSR) (word b SCR)) (synchronous.disabled code (word b CPSR) (word b SCR) (word b HCR))
+      refl refl
     where
       none : (n : ℕ) → isSynchronous n ≡ false → (code is n) ≡ false
       none = other code y
 
-      by : (t : Bool) → synchronous.notHere code a (word b CPSR) (word b SCR) ≡ t
+      by : (t d : Bool) → synchronous.notHere code a (word b CPSR) (word b SCR) ≡ t
+          → synchronous.disabled code (word b CPSR) (word b SCR) (word b HCR) ≡ d
           → takenBy Synchronous (eventWay b code a) ≡ action b (event code a w)
-      by true e = rw (s, k, g, h, y, e)
-      by false e =
+      by true d e f = rw (s, k, g, h, y, e)
+      by false true e f = rw (s, k, g, h, y, e, f)
+      by false false e f =
           rw
-          (s, k, g, h, y, e, none INTERRUPT-CHECK refl, none BANKED-READ refl, none BANKED-WRITE refl, none NOTE refl)
+          (s, k, g, h, y, e, f, none INTERRUPT-CHECK refl, none BANKED-READ refl, none BANKED-WRITE refl, none NOTE refl)
 
 -- the fault of the words that were read is the block's
 pub fault-read : (b : List ℕ) {n cpsr scr hcr : ℕ} → cpsr ≡ word b CPSR → scr ≡ word b SCR → hcr ≡ word b HCR

@@ -8,10 +8,10 @@ use borrow.Author.Tests.{eqb-false, not-true}
 use Rattle.words.specs.Word.{word}
 use Rattle.state.specs.Choice.{if_then_else_, _is_}
 use Rattle.state.specs.Number.{DONE}
-use Rattle.state.specs.Place.{BLOCK-SIZE, NO-PLACE, CPSR, SCR}
+use Rattle.state.specs.Place.{BLOCK-SIZE, NO-PLACE, CPSR, SCR, HCR}
 use Rattle.state.proofs.Test.{and-right}
 use Rattle.entry.specs.Code.{isSynchronous}
-use Rattle.entry.specs.Route.{notHere}
+use Rattle.entry.specs.Route.{notHere, disabled}
 use Rattle.banked.specs.Cell.{cell}
 use Rattle.banked.specs.Right.{right}
 use Rattle.rules.specs.Event.{Event, NOTE, isBanked, badEvent}
@@ -24,6 +24,7 @@ pub record Passed (b : List ℕ) (e : Event) : Type 0 where
   pub good : notGood b ≡ false
   pub event : badEvent (e .code) (e .a) (e .b) ≡ false
   pub here : (isSynchronous (e .code) && notHere (e .code) (e .a) (word b CPSR) (word b SCR)) ≡ false
+  pub able : (isSynchronous (e .code) && disabled (e .code) (word b CPSR) (word b SCR) (word b HCR)) ≡ false
   pub register : (isBanked (e .code) && cell (e .a) is NO-PLACE) ≡ false
   pub right : (isBanked (e .code) && not (right (cell (e .a)) (word b CPSR) (word b SCR) is DONE)) ≡ false
   pub noted-mode : (e .code is NOTE && unknownMode (noted b e)) ≡ false
@@ -47,7 +48,8 @@ passed b e h =
     let p3 = past _ (never 3 refl) (p2 .1) in
     let p4 = past _ (never 4 refl) (p3 .1) in
     let p5 = past _ (never 5 refl) (p4 .1) in
-    let p6 = past _ (never 6 refl) (p5 .1) in
+    let p16 = past _ (never 16 refl) (p5 .1) in
+    let p6 = past _ (never 6 refl) (p16 .1) in
     let p7 = past _ denied (p6 .1) in
     let p8 = past _ (never 2 refl) (p7 .1) in
     let p9 = past _ (never 3 refl) (p8 .1) in
@@ -57,6 +59,7 @@ passed b e h =
       good = p3 .0;
       event = p4 .0;
       here = p5 .0;
+      able = p16 .0;
       register = p6 .0;
       right = p7 .0;
       noted-mode = p8 .0;

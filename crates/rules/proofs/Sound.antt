@@ -55,11 +55,12 @@ synchronous-link code a cpsr scr hcr pc = wrapped _ _
 synchronous-sound : (code a cpsr scr hcr pc : ℕ) → SoundWay (synchronous.way code a cpsr scr hcr pc)
 unfolding synchronous.way
 synchronous-sound code a cpsr scr hcr pc =
-    chosen SoundWay (not (isSynchronous code) || synchronous.notHere code a cpsr scr) tt (
+    chosen SoundWay (not (isSynchronous code) || synchronous.notHere code a cpsr scr) tt
+    (chosen SoundWay (synchronous.disabled code cpsr scr hcr) tt (
       target-is-one code a cpsr scr hcr,
       entry.offset-small code a cpsr scr hcr,
       synchronous-link code a cpsr scr hcr pc,
-    )
+    ))
 
 physical-sound : (k : Kind) (cpsr scr hcr pc : ℕ) → SoundWay (interrupt.physicalWay k cpsr scr hcr pc)
 physical-sound k cpsr scr hcr pc = (interrupts.goes-target k cpsr scr hcr, interrupts.offset-small k _ _, wrapped _ _)

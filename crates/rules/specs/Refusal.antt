@@ -1,5 +1,5 @@
--- The refusals, in the order of their numbers, and for a note again the second and the third: the first row that applies wins
--- (document 01, "Answer numbers").
+-- The refusals, in the order of their numbers, but for DISABLED, which goes behind NOT_HERE (document 02, No. 8), and for a note
+-- again the second and the third: the first row that applies wins (document 01, "Answer numbers").
 use mathlib.Core.Bool.{Bool, true, false, not, _&&_, _||_}
 use mathlib.Core.List.{List, [], _∷_}
 use Prim.Native.Nat.{ℕ}
@@ -8,11 +8,11 @@ use Rattle.words.specs.Word.{word, put}
 use Rattle.state.specs.Choice.{_is_, Row, firstOf}
 use Rattle.state.specs.Field.{mode-field}
 use Rattle.state.specs.Mode.{known}
-use Rattle.state.specs.Number.{DONE, BAD-SIZE, BAD-MODE, BAD-STATE, BAD-EVENT, NOT-HERE, NO-REGISTER, NO-RIGHT}
+use Rattle.state.specs.Number.{DONE, BAD-SIZE, BAD-MODE, BAD-STATE, BAD-EVENT, NOT-HERE, DISABLED, NO-REGISTER}
 use Rattle.state.specs.Place.{BLOCK-SIZE, NO-PLACE, CPSR, SCR, HCR}
 use Rattle.state.specs.State.{good}
 use Rattle.entry.specs.Code.{isSynchronous}
-use Rattle.entry.specs.Route.{notHere}
+use Rattle.entry.specs.Route.{notHere, disabled}
 use Rattle.banked.specs.Cell.{cell}
 use Rattle.banked.specs.Right.{right}
 use Rattle.rules.specs.Event.{Event, NOTE, isBanked, badEvent}
@@ -36,6 +36,10 @@ rows b e =
     ∷ record { applies = notGood b; number = BAD-STATE }
     ∷ record { applies = badEvent (e .code) (e .a) (e .b); number = BAD-EVENT }
     ∷ record { applies = isSynchronous (e .code) && notHere (e .code) (e .a) (word b CPSR) (word b SCR); number = NOT-HERE }
+    ∷ record {
+      applies = isSynchronous (e .code) && disabled (e .code) (word b CPSR) (word b SCR) (word b HCR);
+      number = DISABLED;
+    }
     ∷ record { applies = isBanked (e .code) && cell (e .a) is NO-PLACE; number = NO-REGISTER }
     ∷ record {
       applies = isBanked (e .code) && not (right (cell (e .a)) (word b CPSR) (word b SCR) is DONE);

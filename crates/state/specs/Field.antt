@@ -55,6 +55,12 @@ SCR-FW = bit 4
 abbrev pub SCR-AW : ℕ → Bool
 SCR-AW = bit 5
 
+abbrev pub SCR-SCD : ℕ → Bool
+SCR-SCD = bit 7
+
+abbrev pub SCR-HCE : ℕ → Bool
+SCR-HCE = bit 8
+
 -- HCR
 abbrev pub HCR-FMO : ℕ → Bool
 HCR-FMO = bit 3

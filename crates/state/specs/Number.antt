@@ -26,6 +26,10 @@ NO-REGISTER = 6
 abbrev pub NO-RIGHT : ℕ
 NO-RIGHT = 7
 
+-- (document 02, No. 8)
+abbrev pub DISABLED : ℕ
+DISABLED = 16
+
 -- the checker's, which answers DONE of a trace that it accepts
 abbrev pub SHORT : ℕ
 SHORT = 8

@@ -1,6 +1,6 @@
 // The fields of the words that steer the rules (document 01, "The state block"), each by its register's name and its own.
 ghost use mathlib.Core.Path.{_≡_};
-ghost use Rattle.state.specs.Field.{CPSR-T, CPSR-F, CPSR-I, CPSR-A, SCR-NS, SCR-IRQ, SCR-FIQ, SCR-EA, SCR-FW, SCR-AW, HCR-FMO, HCR-IMO, HCR-AMO, HCR-VF, HCR-VI, HCR-VA, HCR-TSC, HCR-TGE, SCTLR-V};
+ghost use Rattle.state.specs.Field.{CPSR-T, CPSR-F, CPSR-I, CPSR-A, SCR-NS, SCR-IRQ, SCR-FIQ, SCR-EA, SCR-FW, SCR-AW, SCR-SCD, SCR-HCE, HCR-FMO, HCR-IMO, HCR-AMO, HCR-VF, HCR-VI, HCR-VA, HCR-TSC, HCR-TGE, SCTLR-V};
 
 // CPSR.
 pub fn cpsr_t(cpsr: u32) -> bool
@@ -62,6 +62,18 @@ pub fn scr_aw(scr: u32) -> bool
     ensures { λ r. ⌜ r ≡ SCR-AW scr ⌝ }
 {
     scr / 32 % 2 == 1
+}
+
+pub fn scr_scd(scr: u32) -> bool
+    ensures { λ r. ⌜ r ≡ SCR-SCD scr ⌝ }
+{
+    scr / 128 % 2 == 1
+}
+
+pub fn scr_hce(scr: u32) -> bool
+    ensures { λ r. ⌜ r ≡ SCR-HCE scr ⌝ }
+{
+    scr / 256 % 2 == 1
 }
 
 // HCR.

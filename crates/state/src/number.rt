@@ -15,6 +15,9 @@ pub const NO_REGISTER: u32 = 6;
 
 pub const NO_RIGHT: u32 = 7;
 
+// (document 02, No. 8)
+pub const DISABLED: u32 = 16;
+
 // The checker's (document 01, "The trace"), which answers DONE of a trace that it accepts:
 pub const SHORT: u32 = 8;
 

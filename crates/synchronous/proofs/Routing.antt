@@ -88,6 +88,11 @@ module _ {code : ℕ} {b m : List ℕ} {cpsr scr a w : ℕ} (e : Asked code b m 
       → Told (refusedWith k) n q → Carried b (action b (event code a w)) n b q
   barred {k} h t = refused b k (routed refl refl h) t
 
+  -- the same by the words that were read
+  pub barred-by : {k n hcr pc : ℕ} {q : List ℕ} → Read b hcr pc → Barred k ≡ way code a cpsr scr hcr pc
+      → Told (refusedWith k) n q → Carried b (action b (event code a w)) n b q
+  barred-by {k} d h t = refused b k (routed (d .hcr-read) (d .pc-read) h) t
+
   -- on what the rules call its way
   pub on-its-way : {x : Way} {hcr pc n : ℕ} {l q : List ℕ} → Read b hcr pc → x ≡ way code a cpsr scr hcr pc
       → Carried b (takenBy Synchronous x) n l q → Carried b (action b (event code a w)) n l q

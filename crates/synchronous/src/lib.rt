@@ -37,6 +37,8 @@ use rules::event::beyond;
 use rules::taking::take;
 use rules::taking::take_to_hyp;
 use state::field::scr_ea;
+use state::field::scr_hce;
+use state::field::scr_scd;
 use state::mode::Mode;
 use state::number;
 use state::place;
@@ -155,6 +157,9 @@ pub fn smc(block: &mut [u8], cpsr: u32, scr: u32, a: u32, b: u32, buffer: &mut [
             buffer,
         );
     }
+    if scr_scd(scr) {
+        return refuse(buffer, number::DISABLED);
+    }
     send(
         block,
         cpsr,
@@ -178,6 +183,9 @@ pub fn hvc(block: &mut [u8], cpsr: u32, scr: u32, a: u32, b: u32, buffer: &mut [
     }
     if is_secure(cpsr, scr) {
         return refuse(buffer, number::NOT_HERE);
+    }
+    if !scr_hce(scr) {
+        return refuse(buffer, number::DISABLED);
     }
     let next = wrapping_add_u32(get_word(block, place::PC), 4);
     send_to_hyp(block, cpsr, scr, offset::CALL, next, buffer)

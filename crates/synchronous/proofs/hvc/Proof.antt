@@ -1,8 +1,9 @@
--- Not from User or Secure, else taken to Hyp.
+-- Not from User or Secure, disabled with HCE 0, else taken to Hyp.
 use lib.Dec.{lit<, lit≤}
 use mathlib.Core.Bool.{Bool, _||_}
 use mathlib.Core.Path.{_≡_, refl}
-use Rattle.entry.proofs.Ways.{hvc-not-here, hvc-taken}
+use borrow.Author.Tests.{not-true, not-false}
+use Rattle.entry.proofs.Ways.{hvc-not-here, hvc-disabled, hvc-taken}
 use Rattle.entry.specs.Code.{HVC}
 use Rattle.state.proofs.Test.{told, first-of-two}
 use Rattle.state.specs.Choice.{_is_}
@@ -32,7 +33,7 @@ secured c h =
     second-tells (told (user .before .is-user .ensures) (user .if2 .left)) (told (c .is-secure .ensures) h)
 
 -- the place of the last call, seen from the return
-abbrev sent : tie.After-slice-known7 → tie.After-send-to-hyp
+abbrev sent : tie.After-slice-known8 → tie.After-send-to-hyp
 sent c = c .before .before .before .before
 
 returns : tie.Need-returns
@@ -57,18 +58,35 @@ returns-3 c =
     barred (here (ranged (inside .before))) (hvc-not-here _ _ _ _ _ (secured (inside .before) (inside .if3 .taken)))
     (at .refuse3 .ensures)
 
-send-to-hyp-requires : tie.Need-send-to-hyp-requires
-send-to-hyp-requires c κs =
-    let pc = c .before .before .before in
-    (here (ranged (pc .before .before .before)) .lent, lit< tt)
+-- that it is from neither, seen from behind the test of HCE
+abbrev free : tie.After-scr-hce → tie.Else3
+free c = c .before
 
 returns-4 : tie.Need-returns-4
 returns-4 c =
+    let at = c .before .before in
+    let off = at .before .before in
+    let from = free (off .before) in
+    barred (here (ranged (from .before)))
+    (hvc-disabled _ _ _ _ _ (secured (from .before) (from .if3 .left))
+    (told (off .before .scr-hce .ensures) (not-true _ (off .if4 .taken))))
+    (at .refuse4 .ensures)
+
+send-to-hyp-requires : tie.Need-send-to-hyp-requires
+send-to-hyp-requires c κs =
+    let able = c .before .before .before .before .before in
+    (here (ranged (free (able .before) .before)) .lent, lit< tt)
+
+returns-5 : tie.Need-returns-5
+returns-5 c =
     let link = sent c .before .before .before in
     let pc = link .before .get-word in
-    let free = link .before .before .before in
-    taken (here (ranged (free .before))) (as-read refl (pc .ensures) (pc .ok)) (sent c .send-to-hyp .ensures)
-    (link .wrapping-add-u32 .ensures) (hvc-taken _ _ _ _ _ (pc .ok) (secured (free .before) (free .if3 .left)))
+    let able = link .before .before .before in
+    let from = free (able .before) in
+    taken (here (ranged (from .before))) (as-read refl (pc .ensures) (pc .ok)) (sent c .send-to-hyp .ensures)
+    (link .wrapping-add-u32 .ensures)
+    (hvc-taken _ _ _ _ _ (pc .ok) (secured (from .before) (from .if3 .left))
+    (told (able .before .scr-hce .ensures) (not-false _ (able .if4 .left))))
 
 pub hvc-spec : {M : Type 1} → statement M
 hvc-spec =
@@ -86,9 +104,13 @@ hvc-spec =
     (λ c κs. here (ranged (c .before .before)) .lent .1)
     (λ c. c .before .before .refuse3 .kept .0)
     returns-3
-    (λ c κs. rw (here (ranged (c .before .before)) .lent .0) (lit≤ tt))
+    nothing
+    (λ c κs. here (ranged (free (c .before .before) .before)) .lent .1)
+    (λ c. c .before .before .refuse4 .kept .0)
+    returns-4
+    (λ c κs. rw (here (ranged (free (c .before .before) .before)) .lent .0) (lit≤ tt))
     nothing
     send-to-hyp-requires
     (λ c. sent c .send-to-hyp .kept .0)
     (λ c. sent c .send-to-hyp .kept .1 .1 .1 .1 .1 .0)
-    returns-4)
+    returns-5)

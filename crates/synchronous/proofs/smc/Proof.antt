@@ -1,9 +1,9 @@
--- Not from User, trapped from NS EL1 with TSC 1, else taken to Monitor.
+-- Not from User, trapped from NS EL1 with TSC 1, disabled with SCD 1, else taken to Monitor.
 use lib.Dec.{lit<, lit≤}
 use mathlib.Core.Bool.{false}
 use mathlib.Core.Path.{_≡_, refl}
 use Rattle.entry.proofs.Targets.{listed}
-use Rattle.entry.proofs.Ways.{smc-not-here, smc-trapped, smc-taken}
+use Rattle.entry.proofs.Ways.{smc-not-here, smc-trapped, smc-disabled, smc-taken}
 use Rattle.entry.specs.Code.{SMC}
 use Rattle.interrupts.specs.declared.exception.Exception.the-variants.{Synchronous}
 use Rattle.rules.specs.Parts.{Carried}
@@ -12,7 +12,7 @@ use Rattle.state.proofs.Test.{told}
 use Rattle.state.specs.Choice.{_is_}
 use Rattle.state.specs.Field.{mode-field}
 use Rattle.state.specs.Mode.{USER, MONITOR, HYP}
-use Rattle.synchronous.proofs.Routing.{Asked, Read, as-read, in-range, nothing, beyond-range, barred, taken}
+use Rattle.synchronous.proofs.Routing.{Asked, Read, as-read, in-range, nothing, beyond-range, barred, barred-by, taken}
 use Rattle.synchronous.proofs.smc.Statement.{statement}
 use Rattle.synchronous.proofs.smc.Tie as tie
 
@@ -46,7 +46,7 @@ read c = as-read (c .before .get-word2 .ensures) (at-pc c .get-word .ensures) (a
 abbrev to-hyp : tie.After-slice-known6 → tie.After-send
 to-hyp c = c .before .before .before .before
 
-abbrev to-monitor : tie.After-slice-known8 → tie.After-send2
+abbrev to-monitor : tie.After-slice-known9 → tie.After-send2
 to-monitor c = c .before .before .before .before
 
 returns : tie.Need-returns
@@ -81,18 +81,38 @@ returns-3 c =
     taken (here (ranged (free at))) (read at) (trapped (to-hyp c)) refl
     (smc-trapped _ _ _ _ _ (read at .fits) (not-user (free at)) (told (at .is-trapped .ensures) (hyp .if3 .taken)))
 
-send-requires-2 : tie.Need-send-requires-2
-send-requires-2 c κs =
-    let monitor = c .before .before .before in
-    (here (ranged (free (monitor .before))) .lent, listed MONITOR refl, lit< tt)
+-- the test of TSC, seen from behind that of SCD
+abbrev untrapped : tie.After-scr-scd → tie.Else3
+untrapped c = c .before
+
+refuse-requires-3 : tie.Need-refuse-requires-3
+refuse-requires-3 c κs = here (ranged (free (untrapped (c .before .before) .before))) .lent .1
 
 returns-4 : tie.Need-returns-4
 returns-4 c =
+    let at = c .before .before in
+    let off = at .before .before in
+    let past = untrapped (off .before) in
+    let trap = past .before in
+    barred-by (here (ranged (free trap))) (read trap)
+    (smc-disabled _ _ _ _ _ (not-user (free trap)) (told (trap .is-trapped .ensures) (past .if3 .left))
+    (told (off .before .scr-scd .ensures) (off .if4 .taken)))
+    (at .refuse3 .ensures)
+
+send-requires-2 : tie.Need-send-requires-2
+send-requires-2 c κs =
+    let able = c .before .before .before in
+    (here (ranged (free (untrapped (able .before) .before))) .lent, listed MONITOR refl, lit< tt)
+
+returns-5 : tie.Need-returns-5
+returns-5 c =
     let link = to-monitor c .before .before in
-    let monitor = link .before .before in
-    let at = monitor .before in
-    taken (here (ranged (free at))) (read at) (to-monitor c .send2 .ensures) (link .wrapping-add-u32 .ensures)
-    (smc-taken _ _ _ _ _ (read at .fits) (not-user (free at)) (told (at .is-trapped .ensures) (monitor .if3 .left)))
+    let able = link .before .before in
+    let past = untrapped (able .before) in
+    let trap = past .before in
+    taken (here (ranged (free trap))) (read trap) (to-monitor c .send2 .ensures) (link .wrapping-add-u32 .ensures)
+    (smc-taken _ _ _ _ _ (read trap .fits) (not-user (free trap)) (told (trap .is-trapped .ensures) (past .if3 .left))
+    (told (able .before .scr-scd .ensures) (able .if4 .left)))
 
 pub smc-spec : {M : Type 1} → statement M
 smc-spec =
@@ -114,7 +134,12 @@ smc-spec =
     (λ c. to-hyp c .send .kept .1 .1 .1 .1 .1 .1 .0)
     returns-3
     nothing
+    refuse-requires-3
+    (λ c. refl)
+    (λ c. c .before .before .refuse3 .kept .0)
+    returns-4
+    nothing
     send-requires-2
     (λ c. to-monitor c .send2 .kept .0)
     (λ c. to-monitor c .send2 .kept .1 .1 .1 .1 .1 .1 .0)
-    returns-4)
+    returns-5)
