@@ -45,7 +45,9 @@ more f p n v w k l =
 
 -- ---- an End
 
-pub end-written : (p : List ℕ) (n : ℕ) → endSize ≤ length p → {q r : List ℕ} → q ≡ put p 0 (headWord endSize endKind) → r ≡ put q 1 n
+pub end-written : (p : List ℕ) (n : ℕ) → endSize ≤ length p → {q r : List ℕ}
+    → q ≡ put p 0 (headWord endSize endKind)
+    → r ≡ put q 1 n
     → r ≡ endRecord n ++ drop endSize p
 unfolding endRecord
 end-written p n l e₀ e₁ =
@@ -166,16 +168,19 @@ step-written p e l {q} {t} {c} {m} {u} e₀ e₁ e₂ e₃ e₄ =
     let named-long : length (b ++ named e) ≡ answerAt = omega (arith, long, length-append b (named e)) in
     let all = ap length stepped-in ∙ length-append (b ++ named e) (answer₀ ++ (c′ ++ rest)) in
     let m-long : length m ≡ ANSWER-SIZE = ap length answered in
-    let put-last = e₄ ∙ ap (λ (d : List ℕ). d ++ drop (length m) (take (length stepped - answerAt) (drop answerAt stepped))) (take-length m) in
+    let behind-it = drop (length m) (take (length stepped - answerAt) (drop answerAt stepped)) in
+    let put-last = e₄ ∙ ap (λ (d : List ℕ). d ++ behind-it) (take-length m) in
     over-part stepped m u answerAt (length m) refl
     (omega (arith, all, named-long, answer-long, m-long, length-append answer₀ (c′ ++ rest))) put-last
     ∙ (λ i. writtenAt (stepped-in i) answerAt (answered i))
     ∙ write-middle (b ++ named e) answer₀ m′ (c′ ++ rest) answerAt named-long answer-long
     ∙ append-assoc b (named e) (m′ ++ (c′ ++ rest))
-    ∙ ap (λ (n : ℕ). b ++ (stepRecord layout01 b e ++ drop (size + n) p)) (sym (length-step layout01 lawful01 e (answer b e) c′ long′))
+    ∙ ap (λ (n : ℕ). b ++ (stepRecord layout01 b e ++ drop (size + n) p))
+    (sym (length-step layout01 lawful01 e (answer b e) c′ long′))
 
 -- the same in a buffer, at this place: the part that is lent begins with the block before
-pub step-behind : (s : List ℕ) (place before : ℕ) (e : Event) → place ≡ before + layout01 .size → place + stepSize layout01 ≤ length s
+pub step-behind : (s : List ℕ) (place before : ℕ) (e : Event) → place ≡ before + layout01 .size
+    → place + stepSize layout01 ≤ length s
     → {c : List ℕ}
     → let part = take (length s - before) (drop before s) in
     c ≡ writtenAt part (layout01 .size) (stepRecord layout01 (take (layout01 .size) part) e)

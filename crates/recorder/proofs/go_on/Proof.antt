@@ -11,8 +11,8 @@ returns : tie.Need-returns
 returns c =
     let start = c .before .before .before .before .before in
     let x = start .args in
-    step-behind (x .buffer .now) (x .offset + placeOf layout01 (x .steps)) (x .offset + (startBlockAt + stepSize layout01 * x .steps))
-    (x .e) (omega arith) (start .pre) (c .before .before .put-step .ensures)
+    step-behind (x .buffer .now) (x .offset + placeOf layout01 (x .steps))
+    (x .offset + (startBlockAt + stepSize layout01 * x .steps)) (x .e) (omega arith) (start .pre) (c .before .before .put-step .ensures)
 
 pub go-on-spec : {M : Type 1} → statement M
 go-on-spec =

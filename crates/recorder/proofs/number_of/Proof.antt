@@ -25,15 +25,15 @@ returns-4 : tie.Need-returns-4
 returns-4 c =
     let few = c .before .before .before in
     let x = few .before .before .args in
-    no-room layout01 (x .block) (x .events) (x .buffer) (x .offset) (few .before .if1 .left) (few .if2 .left) (c .before .before .if3 .left)
-    (rw (sym (c .before .trace-size .ensures)) (c .if4 .taken))
+    no-room layout01 (x .block) (x .events) (x .buffer) (x .offset) (few .before .if1 .left) (few .if2 .left)
+    (c .before .before .if3 .left) (rw (sym (c .before .trace-size .ensures)) (c .if4 .taken))
 
 returns-5 : tie.Need-returns-5
 returns-5 c =
     let few = c .before .before .before in
     let x = few .before .before .args in
-    room layout01 (x .block) (x .events) (x .buffer) (x .offset) (few .before .if1 .left) (few .if2 .left) (c .before .before .if3 .left)
-    (rw (sym (c .before .trace-size .ensures)) (c .if4 .left))
+    room layout01 (x .block) (x .events) (x .buffer) (x .offset) (few .before .if1 .left) (few .if2 .left)
+    (c .before .before .if3 .left) (rw (sym (c .before .trace-size .ensures)) (c .if4 .left))
 
 pub number-of-spec : {M : Type 1} → statement M
 number-of-spec =

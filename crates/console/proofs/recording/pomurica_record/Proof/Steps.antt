@@ -255,8 +255,10 @@ module _ (Inv : InvT) {M : Type 1} (𝓤 : URA M) (H : Heap 𝓤) (A : Atoms �
       (as-is 𝓤 H A (msptr By Tmp 4)) (gone W (sliceTy Tmp)) (reads-owed-len 𝓤 H A W By BuRef 2 4 ℓ2 8 refl, refl) refl refl
       (λ b o k. tt)
       ⨾ t-call-plain 𝓤 H A W 𝓣 1 go-on.ps go-on.r go-on-reads.Asked go-on-reads.Learnt go-on-symbol.name (known .goes-on) E
-      (λ pos β. β) _
-      (record { pos = 18; ty = Tmp; ref = λ x. x }, (vAt 4 (λ x. x), (vAt 6 (λ x. x), (record { pos = 7; st = []; d = 0; at = λ x. x }, tt)))) 16 (4 ∷ [])
+      (λ pos β. β) _ (
+        record { pos = 18; ty = Tmp; ref = λ x. x },
+        (vAt 4 (λ x. x), (vAt 6 (λ x. x), (record { pos = 7; st = []; d = 0; at = λ x. x }, tt))),
+      ) 16 (4 ∷ [])
       (sub-id 𝓤 H A W _) (
         as-is 𝓤 H A (mslice By Tmp 4),
         reads-mslice 𝓤 H A W By Tmp 4,
