@@ -40,7 +40,7 @@ pub lent-step : (b : List ℕ) (e : Event) (m : List ℕ) → length b ≡ BLOCK
     → (numberReturned b e m ≡ answer b e .number) × (blockLeft b e m ≡ after b e) × (answerLeft b e m ≡ answerBytes (answer b e))
 lent-step = leaving.lent
 
--- ---- each number is given exactly when its row applies and no lower one does
+-- ---- each number is given exactly when its row applies and no row before it does
 
 -- of the step over an answer buffer, row 1 with its second half
 pub number-exactly : (b : List ℕ) (e : Event) (m : List ℕ) (n : ℕ) → (numberReturned b e m ≡ n) ↔ FirstRow (rowsLent b e m) n

@@ -27,7 +27,7 @@ use Rattle.rules.specs.Step.{vaCleared, answer, after, sized, numberReturned, b
 use Rattle.rules.specs.Verdict.{entryTo, answerFor}
 use Rattle.rules.specs.declared.event.Event.{Event}
 
--- ---- the answer numbers: "The lowest number that applies wins"
+-- ---- the answer numbers: "The lowest number that applies wins", DISABLED going behind NOT_HERE (document 02, No. 8)
 
 -- n is the number of the first row that applies; where none does it is DONE
 pub data FirstRow : List Row → ℕ → Type 0 where
