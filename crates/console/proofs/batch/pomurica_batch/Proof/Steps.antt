@@ -46,7 +46,7 @@ use Rattle.machine.proofs.Walk.{Code, _⨾_, _∘_, fork, last, back, on, out, 
 use Rattle.machine.proofs.step.advance.Kinds as step
 use Rattle.machine.proofs.step.advance.Reads as step-reads
 use Rattle.machine.proofs.step.advance.Symbol as step-symbol
-use Rattle.console.proofs.Listed.{Ev, An, By, noEvent, ps, res}
+use Rattle.console.proofs.Listed.{Ev, An, By, noEvent, yieldsEv, ps, res}
 use Rattle.console.proofs.batch.pomurica_batch.Code as code
 
 -- ---- the types
@@ -117,12 +117,7 @@ module _ (Inv : InvT) {M : Type 1} (𝓤 : URA M) (H : Heap 𝓤) (A : Atoms �
   abbrev ℓ2 : Life
   ℓ2 = lease (κs .1 .1 .0) (qs .1 .1 .0)
 
-  -- ---- an event and an answer, copied out of a local
-
-  pub yieldsEv : Yields 𝓤 H A (λ ρ. Unit) ev.mir (whole Ev) (whole Ev) Ev (λ x. x) (λ x. x)
-  yieldsEv =
-      yields-copy 𝓤 H A W (λ ρ. Unit) Ev refl (cStruct event ev.the-laws ev.the-copy .copy 𝓤 H A W) (whole Ev) (λ x. x) (λ x. x)
-      (λ ρ told. mem-whole 𝓤 H A W Ev ρ) (λ ρ told. whole-mem 𝓤 H A W Ev ρ)
+  -- ---- an answer, copied out of a local
 
   pub yieldsAn : Yields 𝓤 H A (λ ρ. Unit) an.mir (whole An) (whole An) An (λ x. x) (λ x. x)
   yieldsAn =
@@ -209,7 +204,7 @@ module _ (Inv : InvT) {M : Type 1} (𝓤 : URA M) (H : Heap 𝓤) (A : Atoms �
       (makes-mem 𝓤 H A W (λ ρ. Unit) Ev refl (whole Ev) (λ x. x) (λ ρ told. whole-mem 𝓤 H A W Ev ρ)) refl tt refl refl
       ⨾ free W 10 U64 (full W N) ∘ free W 12 tyPtr (full W sPtr)
       ∘ t-val-copy 𝓤 H A W E 𝓣 (λ ρ. Unit) _ 13 5 Ev ev.mir ev.mir (whole Ev) (whole Ev) (λ x. x) (λ x. x) (λ x. x) refl
-      (told-none 𝓤 H A _) yieldsEv (gone W ev.mir)
+      (told-none 𝓤 H A _) (yieldsEv 𝓤 H A W) (gone W ev.mir)
       (makes-mem 𝓤 H A W (λ ρ. Unit) Ev refl (whole Ev) (λ x. x) (λ ρ told. whole-mem 𝓤 H A W Ev ρ)) refl refl
       ⨾ free W 13 ev.mir (room-whole 𝓤 H A W Ev ev.mir refl)
       -- let x = advance(block, e);
@@ -223,7 +218,7 @@ module _ (Inv : InvT) {M : Type 1} (𝓤 : URA M) (H : Heap 𝓤) (A : Atoms �
       ⨾ t-call-plain 𝓤 H A W 𝓣 1 step.ps step.r step-reads.Asked step-reads.Learnt step-symbol.name known E (λ pos β. β) _
       (record { pos = 15; ty = Tmp; ref = λ x. x }, (record { pos = 5; st = []; d = 0; at = λ x. x }, tt)) 6 (3 ∷ [])
       (sub-id 𝓤 H A W _)
-      (as-is 𝓤 H A (mslice By Tmp 3), reads-mslice 𝓤 H A W By Tmp 3, refl, ((yieldsEv, refl), tt)) (gone W an.mir) (tt, tt) refl
+      (as-is 𝓤 H A (mslice By Tmp 3), reads-mslice 𝓤 H A W By Tmp 3, refl, ((yieldsEv 𝓤 H A W, refl), tt)) (gone W an.mir) (tt, tt) refl
       ⨾ free W 5 ev.mir (room-whole 𝓤 H A W Ev ev.mir refl) ∘ g-end 𝓤 H A W E _ 3 refl
       ∘ g-back-sl 𝓤 H A W E By _ 15 3 2 3 ByRef Tmp ℓ2 (λ x. x) (λ x. x) (as-is 𝓤 H A (msleft By Tmp))
       (as-is 𝓤 H A (mslice-owed By ByRef 2 3 ℓ2)) refl refl

@@ -25,9 +25,9 @@ use borrow.Table.Elements.{at-mul}
 use borrow.Kind.Num.{vAt}
 use borrow.Kind.ShrSlice.{spares-sslice}
 use borrow.Rule.Scalar.{oAt, oInt, oFld, After}
-use borrow.Rule.Local.{mem-whole, whole-mem, room-whole}
+use borrow.Rule.Local.{whole-mem, room-whole}
 use borrow.Rule.LocalCopy.{t-val-copy}
-use borrow.Rule.Yields.{Yields, yields-copy, makes-mem}
+use borrow.Rule.Yields.{makes-mem}
 use borrow.Rule.DerefMove.{learns-nothing}
 use borrow.Rule.Lifetime.{g-begin, g-end, g-forget}
 use borrow.Rule.Slice.Shared.{lenV, bySize, reads-sslice, reads-sslice-len, reads-sslice-ptr}
@@ -52,7 +52,7 @@ use Rattle.recorder.proofs.go_on.Symbol as go-on-symbol
 use Rattle.recorder.proofs.finish.Kinds as finish
 use Rattle.recorder.proofs.finish.Reads as finish-reads
 use Rattle.recorder.proofs.finish.Symbol as finish-symbol
-use Rattle.console.proofs.Listed.{Ev, By, noEvent}
+use Rattle.console.proofs.Listed.{Ev, By, noEvent, yieldsEv}
 use Rattle.console.proofs.recording.pomurica_record.Proof.Claims.{ps, res}
 use Rattle.console.proofs.recording.pomurica_record.Code as code
 
@@ -147,13 +147,6 @@ module _ (Inv : InvT) {M : Type 1} (𝓤 : URA M) (H : Heap 𝓤) (A : Atoms �
   abbrev ℓ2 : Life
   ℓ2 = lease (κs .1 .1 .0) (qs .1 .1 .0)
 
-  -- ---- an event, copied out of a local
-
-  pub yields : Yields 𝓤 H A (λ ρ. Unit) ev.mir (whole Ev) (whole Ev) Ev (λ x. x) (λ x. x)
-  yields =
-      yields-copy 𝓤 H A W (λ ρ. Unit) Ev refl (cStruct event ev.the-laws ev.the-copy .copy 𝓤 H A W) (whole Ev) (λ x. x) (λ x. x)
-      (λ ρ told. mem-whole 𝓤 H A W Ev ρ) (λ ρ told. whole-mem 𝓤 H A W Ev ρ)
-
   -- ---- the loop by values: what a turn changes is written into what stood when the loop began
 
   abbrev back-in : Vs → Mo Γi → Mo Γi
@@ -244,7 +237,7 @@ module _ (Inv : InvT) {M : Type 1} (𝓤 : URA M) (H : Heap 𝓤) (A : Atoms �
       (makes-mem 𝓤 H A W (λ ρ. Unit) Ev refl (whole Ev) (λ x. x) (λ ρ told. whole-mem 𝓤 H A W Ev ρ)) refl tt refl refl
       ⨾ free W 12 U64 (full W N) ∘ free W 14 tyPtr (full W sPtr)
       ∘ t-val-copy 𝓤 H A W E 𝓣 (λ ρ. Unit) _ 15 7 Ev ev.mir ev.mir (whole Ev) (whole Ev) (λ x. x) (λ x. x) (λ x. x) refl
-      (told-none 𝓤 H A _) yields (gone W ev.mir)
+      (told-none 𝓤 H A _) (yieldsEv 𝓤 H A W) (gone W ev.mir)
       (makes-mem 𝓤 H A W (λ ρ. Unit) Ev refl (whole Ev) (λ x. x) (λ ρ told. whole-mem 𝓤 H A W Ev ρ)) refl refl
       ⨾ free W 15 ev.mir (room-whole 𝓤 H A W Ev ev.mir refl)
       -- go_on(buffer, offset, i, e);
@@ -263,7 +256,7 @@ module _ (Inv : InvT) {M : Type 1} (𝓤 : URA M) (H : Heap 𝓤) (A : Atoms �
         as-is 𝓤 H A (mslice By Tmp 4),
         reads-mslice 𝓤 H A W By Tmp 4,
         refl,
-        ((reads W N, refl), ((reads W N, refl), ((yields, refl), tt))),
+        ((reads W N, refl), ((reads W N, refl), ((yieldsEv 𝓤 H A W, refl), tt))),
       ) (gone W tyUnit)
       (tt, tt) refl
       ⨾ free W 7 ev.mir (room-whole 𝓤 H A W Ev ev.mir refl) ∘ free W 16 tyUnit (full W sUnit) ∘ g-end 𝓤 H A W E _ 4 refl
