@@ -30,8 +30,15 @@ static void restore(void)
     changed = -1;
 }
 
+/* An emulator of x86-64 may call a catcher on a stack that is not aligned as the convention says: qemu 8.2 does. */
+#ifdef __x86_64__
+#define ON_ANY_STACK __attribute__((force_align_arg_pointer))
+#else
+#define ON_ANY_STACK
+#endif
+
 /* The signal that is raised waits until this has returned, and then ends the console: it is caught once. */
-static void restore_and_end(int number)
+ON_ANY_STACK static void restore_and_end(int number)
 {
     restore();
     raise(number);
