@@ -1,8 +1,8 @@
 /*
  * Checked Steps to be counted: one call over a prepared honest trace.
  *
- *     check_loop prepare FILE     records the trace: nine Steps in ten done, HVC and Hyp Trap half as
- *                                 often as each other code, since few blocks of a trace let them happen
+ *     check_loop prepare FILE     records the trace: all codes alike often, nine Steps in ten done; what is
+ *                                 refused is mostly HVC and Hyp Trap, which few blocks of a trace let happen
  *     check_loop count WHO FILE   judges it once; WHO: nothing, ours, c, memcmp, bytes
  *     check_loop time WHO FILE    prints nanoseconds a Step
  */
@@ -102,7 +102,7 @@ static uint32_t next_code(const uint32_t *used, uint32_t tried)
 {
     uint32_t least = 0;
 
-    for (uint32_t code = 1; code <= CODE_NOTE; code++) {
+    for (uint32_t code = 1; code < CODES; code++) {
         if ((tried >> code & 1) == 0 && (least == 0 || used[code] < used[least]))
             least = code;
     }

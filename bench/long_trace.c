@@ -32,7 +32,7 @@ size_t record_long_trace(uint32_t steps, bool right)
     pomurica_put_word(long_trace, POMURICA_RECORD_COUNT, steps);
     memcpy(long_trace + 4 * POMURICA_START_BLOCK, block, BLOCK_SIZE);
     for (uint32_t i = 0; i < steps; i++, at += POMURICA_STEP_SIZE) {
-        struct event event = event_of(&chance, 1 + i % CODE_NOTE, block);
+        struct event event = event_of(&chance, 1 + i % (CODES - 1), block);
 
         keep_calls(&event);
         record_step(&event, block, at);

@@ -12,8 +12,8 @@
 #include <stddef.h>
 #include <stdint.h>
 
-/* Steps of a run. */
-#define STEPS 12000
+/* Steps of a run: as many of each code. */
+#define STEPS 13000
 
 /* The bytes of the trace that has them. */
 #define TRACE_SIZE (POMURICA_START_SIZE + STEPS * POMURICA_STEP_SIZE + POMURICA_END_SIZE)

@@ -27,7 +27,7 @@
 #define UNKNOWN (~(USER | MONITOR | HYP | EL1))
 
 enum {
-    MODE = 0x1F, T = 1 << 5, F = 1 << 6, I = 1 << 7, A = 1 << 8, E = 1 << 9, ZERO_IN_CPSR = 0xF << 21,
+    MODE = 0x1F, T = 1 << 5, F = 1 << 6, I = 1 << 7, A = 1 << 8, E = 1 << 9, IL = 1 << 20, ZERO_IN_CPSR = 0xF << 21,
     NS = 1 << 0, SCR_IRQ = 1 << 1, SCR_FIQ = 1 << 2, EA = 1 << 3, FW = 1 << 4, AW = 1 << 5, SCD = 1 << 7, HCE = 1 << 8,
     FMO = 1 << 3, IMO = 1 << 4, AMO = 1 << 5, VF = 1 << 6, VI = 1 << 7, VA = 1 << 8,
     TSC = 1 << 19, TGE = 1 << 27,
@@ -65,16 +65,18 @@ ALWAYS_INLINE uint32_t is_in(uint32_t mode, uint32_t modes)
     return modes >> mode & 1;
 }
 
+/* The modes in which no block with these two words is good. */
+ALWAYS_INLINE uint32_t not_good(uint32_t scr, uint32_t hcr)
+{
+    if (!(scr & NS))
+        return UNKNOWN | HYP;
+    return hcr & TGE ? UNKNOWN | EL1 : UNKNOWN;
+}
+
 /* Whether a block with these three words is good. */
 ALWAYS_INLINE uint32_t is_good(uint32_t cpsr, uint32_t scr, uint32_t hcr)
 {
-    uint32_t not_good = UNKNOWN;
-
-    if (!(scr & NS))
-        not_good |= HYP;
-    else if (hcr & TGE)
-        not_good |= EL1;
-    return !is_in(cpsr & MODE, not_good) && !(cpsr & ZERO_IN_CPSR);
+    return !is_in(cpsr & MODE, not_good(scr, hcr)) && !(cpsr & ZERO_IN_CPSR);
 }
 
 /* The number of a block that is not good. */
@@ -473,6 +475,66 @@ EVENT(note)
     DONE_WITH(0);
 }
 
+/* What may be taken off LR, a bit for each A; from Hyp nothing. */
+#define OFF_LR (1 << 0 | 1 << 2 | 1 << 4 | 1 << 8)
+#define NOTHING (1 << 0)
+#define MOST_OFF 8
+
+/* By mode, from 0x10 on: what its return goes by.  User and System have no SPSR, and there not even 0 may be taken off. */
+#define BY(mode) [POMURICA_MODE_##mode - POMURICA_MODE_USER]
+static const struct {
+    uint8_t spsr, link;
+    uint16_t off;
+    uint32_t above; /* the modes of a higher level, with NS 1; with NS 0 these are at EL3 themselves */
+} RETURNS[16] = {
+    BY(USER) = { POMURICA_PLACE_CPSR, POMURICA_PLACE_PC, 0, 0 },
+    BY(FIQ) = { POMURICA_PLACE_SPSR_FIQ, POMURICA_PLACE_LR_FIQ, OFF_LR, MONITOR | HYP },
+    BY(IRQ) = { POMURICA_PLACE_SPSR_IRQ, POMURICA_PLACE_LR_IRQ, OFF_LR, MONITOR | HYP },
+    BY(SUPERVISOR) = { POMURICA_PLACE_SPSR_SVC, POMURICA_PLACE_LR_SVC, OFF_LR, MONITOR | HYP },
+    BY(MONITOR) = { POMURICA_PLACE_SPSR_MON, POMURICA_PLACE_LR_MON, OFF_LR, 0 },
+    BY(ABORT) = { POMURICA_PLACE_SPSR_ABT, POMURICA_PLACE_LR_ABT, OFF_LR, MONITOR | HYP },
+    BY(HYP) = { POMURICA_PLACE_SPSR_HYP, POMURICA_PLACE_ELR_HYP, NOTHING, MONITOR },
+    BY(UNDEFINED) = { POMURICA_PLACE_SPSR_UND, POMURICA_PLACE_LR_UND, OFF_LR, MONITOR | HYP },
+    BY(SYSTEM) = { POMURICA_PLACE_CPSR, POMURICA_PLACE_PC, 0, 0 },
+};
+
+ALWAYS_INLINE uint32_t may_be_off(uint32_t a, uint32_t off)
+{
+    return a <= MOST_OFF && (off >> a & 1);
+}
+
+/* Apart, so that a done return pays little for it.  The CPSR that User and System have for an SPSR is a good block's. */
+static __attribute__((noinline, cold)) uint32_t refuse_return(uint32_t mode, uint32_t saved, uint32_t a, uint32_t b,
+                                                              uint8_t *answer)
+{
+    if (saved & ZERO_IN_CPSR)
+        REFUSE(POMURICA_BAD_STATE);
+    if (b || !may_be_off(a, mode == POMURICA_MODE_HYP ? NOTHING : OFF_LR))
+        REFUSE(POMURICA_BAD_EVENT);
+    REFUSE(POMURICA_NOT_HERE);
+}
+
+/* The saved word; where its mode is illegal, the mode stays and IL becomes 1. */
+ALWAYS_INLINE uint32_t returned(uint32_t saved, uint32_t mode, uint32_t illegal)
+{
+    return is_in(saved & MODE, illegal) ? (saved & ~(uint32_t)MODE) | mode | IL : saved;
+}
+
+EVENT(exception_return)
+{
+    const struct state state = STATE;
+    const uint32_t row = state.mode - POMURICA_MODE_USER;
+    const uint32_t saved = get(block, RETURNS[row].spsr);
+    uint32_t illegal;
+
+    if (UNLIKELY(b || (saved & ZERO_IN_CPSR) || !may_be_off(a, RETURNS[row].off)))
+        return refuse_return(state.mode, saved, a, b, answer);
+    illegal = not_good(scr, get(block, POMURICA_PLACE_HCR)) | (state.ns ? RETURNS[row].above : 0);
+    put(block, POMURICA_PLACE_PC, (get(block, RETURNS[row].link) - a) & (0 - size_of_instruction(saved)));
+    put(block, POMURICA_PLACE_CPSR, returned(saved, state.mode, illegal));
+    DONE_WITH(0);
+}
+
 EVENT(unknown)
 {
     (void)block, (void)cpsr, (void)scr, (void)a, (void)b;
@@ -480,10 +542,10 @@ EVENT(unknown)
 }
 
 /* By code. */
-#define CODES 13
+#define CODES 14
 static uint32_t (*const EVENTS[CODES])(uint8_t *, uint32_t, uint32_t, uint32_t, uint32_t, uint8_t *) = {
     unknown, undefined, svc, smc, hvc, prefetch_abort, data_abort, hyp_trap, monitor_trap,
-    interrupt_check, banked_read, banked_write, note,
+    interrupt_check, banked_read, banked_write, note, exception_return,
 };
 
 /* Apart, so that a good block pays nothing for it. */

@@ -1,7 +1,7 @@
 /*
  * Steps to be counted: one call after another over prepared blocks and events.
  *
- *     step_loop prepare CODE FILE   of one event code, or of all twelve in turn (0)
+ *     step_loop prepare CODE FILE   of one event code, or of all thirteen in turn (0)
  *     step_loop count WHO FILE      runs them once; WHO: nothing, ours, c
  *     step_loop time WHO FILE       prints nanoseconds a step
  */
@@ -55,7 +55,7 @@ static void prepare(uint32_t code)
     struct chance chance = { 1 };
 
     for (uint32_t i = 0; i < STEPS; i++)
-        prepare_case(&chance, code != 0 ? code : 1 + i % CODE_NOTE, &prepared[i]);
+        prepare_case(&chance, code != 0 ? code : 1 + i % (CODES - 1), &prepared[i]);
 }
 
 /* A done step changes its block. */

@@ -9,11 +9,6 @@
 /* Rows of columns that several Steps share, at most. */
 enum { MOST_ROWS = 14 };
 
-static uint32_t mode_of(const uint8_t *block)
-{
-    return pomurica_get_word(block, POMURICA_PLACE_CPSR) & POMURICA_CPSR_MODE;
-}
-
 enum lane lane_of(const uint8_t *block)
 {
     const uint32_t mode = mode_of(block);
@@ -93,6 +88,8 @@ static void count_step(struct row *row, uint32_t index)
         column->mode = (uint8_t)mode_of(block);
     if (index < shown->right && outcome == OUTCOME_ENTRY)
         column->counts[ENTRIES]++;
+    if (index < shown->right && outcome == OUTCOME_RETURN)
+        column->counts[RETURNS]++;
     if (index < shown->right && outcome == OUTCOME_REFUSED)
         column->counts[REFUSALS]++;
 }

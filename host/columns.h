@@ -1,7 +1,8 @@
 /*
  * What a timeline shows, counted.  It is rows of columns.  A column stands for
  * one Step, or for several of a long trace, and counts in each lane how many of
- * its Steps were in a mode of that lane, and which were entries and refusals.
+ * its Steps were in a mode of that lane, and which were entries, returns and
+ * refusals.
  */
 #ifndef COLUMNS_H
 #define COLUMNS_H
@@ -16,11 +17,12 @@ enum lane {
     LANE_MONITOR, LANE_HYP, LANE_GUEST, LANE_SECURE, LANE_NONE, LANES
 };
 
-/* What is counted in a column: Steps by lane, those that nobody judged by lane, entries and refusals. */
+/* What is counted in a column: Steps by lane, those that nobody judged by lane, entries, returns and refusals. */
 enum series {
     OF_LANE = 0,
     PALE_OF_LANE = LANES,
     ENTRIES = 2 * LANES,
+    RETURNS,
     REFUSALS,
     SERIES
 };

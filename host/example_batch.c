@@ -13,10 +13,10 @@ int main(void)
     pomurica_put_word(block, POMURICA_PLACE_SCR, POMURICA_SCR_NS | POMURICA_SCR_HCE);
     pomurica_put_word(block, POMURICA_PLACE_PC, 0x8000);
 
-    /* An IRQ waits; code 13 is none, and is refused; the block goes on from where the IRQ led. */
+    /* An IRQ waits; code 14 is none, and is refused; the block goes on from where the IRQ led. */
     const struct pomurica_event events[] = {
         { POMURICA_EVENT_INTERRUPT_CHECK, POMURICA_LINE_IRQ, 0 },
-        { 13, 0, 0 },
+        { 14, 0, 0 },
         { POMURICA_EVENT_HVC, 0, 0 },
     };
     const size_t count = sizeof events / sizeof events[0];

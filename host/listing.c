@@ -121,9 +121,12 @@ static void list_wrong_step(FILE *out, const uint8_t *step, uint32_t index)
 /* The style of an outcome; the mark in front of it comes with the style. */
 static const char *outcome_style(enum outcome outcome)
 {
-    if (outcome == OUTCOME_ENTRY)
-        return " class=\"entry\"";
-    return outcome == OUTCOME_REFUSED ? " class=\"refusal\"" : "";
+    switch (outcome) {
+    case OUTCOME_ENTRY: return " class=\"entry\"";
+    case OUTCOME_RETURN: return " class=\"return\"";
+    case OUTCOME_REFUSED: return " class=\"refusal\"";
+    default: return "";
+    }
 }
 
 /* A Step as its record has it: a right one has what the rules give. */

@@ -92,6 +92,7 @@ const char *event_name(uint32_t code)
     case POMURICA_EVENT_BANKED_READ: return "banked read";
     case POMURICA_EVENT_BANKED_WRITE: return "banked write";
     case POMURICA_EVENT_NOTE: return "note";
+    case POMURICA_EVENT_RETURN: return "exception return";
     default: return NULL;
     }
 }
@@ -189,12 +190,16 @@ static void tell_operands(FILE *out, uint32_t code, uint32_t a, uint32_t b)
     case POMURICA_EVENT_NOTE:
         fprintf(out, ": %s becomes 0x%08" PRIX32, register_name(a), b);
         break;
+    case POMURICA_EVENT_RETURN:
+        if (a > 0)
+            fprintf(out, ", LR less %" PRIu32, a);
+        break;
     default:
         break;
     }
 }
 
-/* The most that A may be; 0 where it must be 0. */
+/* The most that A may be; 0 where it must be 0.  A of a return goes by is_taken_off. */
 static uint32_t most_a(uint32_t code)
 {
     switch (code) {
@@ -214,6 +219,17 @@ static uint32_t most_b(uint32_t code)
     return code == POMURICA_EVENT_BANKED_WRITE || code == POMURICA_EVENT_NOTE ? UINT32_MAX : 0;
 }
 
+/* Whether A of a return is an amount that may be taken off LR; the address from Hyp, ELR_hyp, stands as it is. */
+static bool is_taken_off(uint32_t mode, uint32_t a)
+{
+    return a == 0 || (mode != POMURICA_MODE_HYP && (a == 2 || a == 4 || a == 8));
+}
+
+static bool is_right_a(uint32_t code, uint32_t mode, uint32_t a)
+{
+    return code == POMURICA_EVENT_RETURN ? is_taken_off(mode, a) : a <= most_a(code);
+}
+
 /* What is wrong with an operand, if anything. */
 static void tell_excess(FILE *out, char operand, uint32_t word, uint32_t most)
 {
@@ -226,12 +242,21 @@ static void tell_excess(FILE *out, char operand, uint32_t word, uint32_t most)
         fprintf(out, ", above %" PRIu32, most);
 }
 
+/* What is wrong with A, if anything. */
+static void tell_wrong_a(FILE *out, uint32_t code, uint32_t mode, uint32_t a)
+{
+    if (code != POMURICA_EVENT_RETURN)
+        tell_excess(out, 'A', a, most_a(code));
+    else if (!is_taken_off(mode, a))
+        fprintf(out, ", A %" PRIu32 ", which must be 0%s", a, mode == POMURICA_MODE_HYP ? " from Hyp" : ", 2, 4 or 8");
+}
+
 void tell_event(FILE *out, const uint8_t *step)
 {
-    const uint32_t code = pomurica_get_word(step, POMURICA_STEP_CODE);
+    const uint32_t code = pomurica_get_word(step, POMURICA_STEP_CODE), mode = mode_of(block_before(step));
     const uint32_t a = pomurica_get_word(step, POMURICA_STEP_A), b = pomurica_get_word(step, POMURICA_STEP_B);
     const bool aborts = code == POMURICA_EVENT_PREFETCH_ABORT || code == POMURICA_EVENT_DATA_ABORT;
-    const bool in_range = a <= most_a(code);
+    const bool in_range = is_right_a(code, mode, a);
 
     if (event_name(code) == NULL) {
         fprintf(out, "event of code %" PRIu32 ", which is none", code);
@@ -242,7 +267,7 @@ void tell_event(FILE *out, const uint8_t *step)
         tell_operands(out, code, a, b);
     else if (most_b(code) > 0) /* A says of no place that it takes the word */
         fprintf(out, " of 0x%08" PRIX32, b);
-    tell_excess(out, 'A', a, most_a(code));
+    tell_wrong_a(out, code, mode, a);
     tell_excess(out, 'B', b, most_b(code));
 }
 
@@ -252,18 +277,29 @@ void tell_event_words(FILE *out, const uint8_t *step)
             pomurica_get_word(step, POMURICA_STEP_A), pomurica_get_word(step, POMURICA_STEP_B));
 }
 
-void tell_state(FILE *out, const uint8_t *block)
+static bool has_ns(const uint8_t *block)
 {
-    const uint32_t cpsr = pomurica_get_word(block, POMURICA_PLACE_CPSR);
-    const uint32_t mode = cpsr & POMURICA_CPSR_MODE;
-    const bool non_secure = pomurica_get_word(block, POMURICA_PLACE_SCR) & POMURICA_SCR_NS;
+    return pomurica_get_word(block, POMURICA_PLACE_SCR) & POMURICA_SCR_NS;
+}
+
+/* The mode of a block, with the state that NS gives it. */
+static void tell_mode(FILE *out, const uint8_t *block)
+{
+    const uint32_t mode = mode_of(block);
 
     if (mode_name(mode) == NULL)
         fprintf(out, "mode 0x%02" PRIX32 ", which is none", mode);
     else if (mode == POMURICA_MODE_MONITOR)
-        fprintf(out, "Monitor with NS %d", non_secure);
+        fprintf(out, "Monitor with NS %d", has_ns(block));
     else
-        fprintf(out, "%s %s", non_secure ? "Non-secure" : "Secure", mode_name(mode));
+        fprintf(out, "%s %s", has_ns(block) ? "Non-secure" : "Secure", mode_name(mode));
+}
+
+void tell_state(FILE *out, const uint8_t *block)
+{
+    const uint32_t cpsr = pomurica_get_word(block, POMURICA_PLACE_CPSR);
+
+    tell_mode(out, block);
     if (cpsr & (POMURICA_CPSR_A | POMURICA_CPSR_I | POMURICA_CPSR_F))
         fprintf(out, ", masked%s%s%s", cpsr & POMURICA_CPSR_A ? " A" : "", cpsr & POMURICA_CPSR_I ? " I" : "",
                 cpsr & POMURICA_CPSR_F ? " F" : "");
@@ -277,6 +313,77 @@ static void tell_entry(FILE *out, uint32_t value)
 
     fprintf(out, "%senters %s mode at 0x%02" PRIX32, which < COUNT_OF(EXCEPTIONS) ? EXCEPTIONS[which] : "",
             mode_name(mode) == NULL ? "no" : mode_name(mode), value & 0xFF);
+}
+
+/* The place of a mode's saved word, its SPSR; POMURICA_PLACES for User, System, and a mode that is none. */
+static uint32_t saved_place(uint32_t mode)
+{
+    switch (mode) {
+    case POMURICA_MODE_FIQ: return POMURICA_PLACE_SPSR_FIQ;
+    case POMURICA_MODE_IRQ: return POMURICA_PLACE_SPSR_IRQ;
+    case POMURICA_MODE_SUPERVISOR: return POMURICA_PLACE_SPSR_SVC;
+    case POMURICA_MODE_ABORT: return POMURICA_PLACE_SPSR_ABT;
+    case POMURICA_MODE_UNDEFINED: return POMURICA_PLACE_SPSR_UND;
+    case POMURICA_MODE_MONITOR: return POMURICA_PLACE_SPSR_MON;
+    case POMURICA_MODE_HYP: return POMURICA_PLACE_SPSR_HYP;
+    default: return POMURICA_PLACES;
+    }
+}
+
+/* Two of the states that a block may not be in, nor a return lead to: whether it would be there in this mode of the nine. */
+static bool is_hyp_with_ns_0(const uint8_t *block, uint32_t mode)
+{
+    return mode == POMURICA_MODE_HYP && !has_ns(block);
+}
+
+static bool is_ns_el1_with_tge_1(const uint8_t *block, uint32_t mode)
+{
+    const bool is_el1 = mode != POMURICA_MODE_USER && mode != POMURICA_MODE_HYP && mode != POMURICA_MODE_MONITOR;
+
+    return is_el1 && has_ns(block) && pomurica_get_word(block, POMURICA_PLACE_HCR) & POMURICA_HCR_TGE;
+}
+
+/*
+ * Why a return to a mode is illegal, where the step finds it so.  A level can be
+ * above that of two kinds of modes that return: Hyp, and those of Non-secure EL1.
+ */
+static void tell_illegality(FILE *out, const uint8_t *block, uint32_t mode)
+{
+    if (mode_name(mode) == NULL)
+        fprintf(out, "mode 0x%02" PRIX32 " is none", mode);
+    else if (is_hyp_with_ns_0(block, mode))
+        fputs("Hyp with NS 0", out);
+    else if (is_ns_el1_with_tge_1(block, mode))
+        fprintf(out, "Non-secure %s with TGE 1", mode_name(mode));
+    else
+        fprintf(out, "%s is above Exception level %d", mode_name(mode), mode_of(block) == POMURICA_MODE_HYP ? 2 : 1);
+}
+
+/* A return that is done, as the step does it; it is illegal where the mode does not become the saved word's. */
+static void tell_return(FILE *out, const uint8_t *step)
+{
+    const uint8_t *const block = block_before(step);
+    struct due due;
+    uint32_t saved_mode, address;
+
+    find_due(step, &due);
+    if (pomurica_get_word(due.answer, POMURICA_ANSWER_NUMBER) != POMURICA_DONE) {
+        fputs("returns", out); /* in a Step that nobody judged: the rules refuse it */
+        return;
+    }
+    saved_mode = pomurica_get_word(block, saved_place(mode_of(block))) & POMURICA_CPSR_MODE;
+    address = pomurica_get_word(due.block, POMURICA_PLACE_PC);
+    if (mode_of(due.block) == saved_mode) {
+        fputs("returns to ", out);
+        tell_mode(out, due.block);
+        fprintf(out, " at 0x%08" PRIX32, address);
+    } else {
+        fputs("illegal return (", out);
+        tell_illegality(out, block, saved_mode);
+        fputs("): stays in ", out);
+        tell_mode(out, due.block);
+        fprintf(out, ", IL becomes 1, goes on at 0x%08" PRIX32, address);
+    }
 }
 
 /*
@@ -295,9 +402,34 @@ static const char *why_disabled(const uint8_t *step)
     return NULL;
 }
 
+/* Whether a return is refused for its saved word: any of bits 24-21 is set, and the block itself is good. */
+static bool is_saved_word_bad(const uint8_t *step)
+{
+    const uint8_t *const block = block_before(step);
+    const uint32_t mode = mode_of(block), place = saved_place(mode);
+
+    if (pomurica_get_word(step, POMURICA_STEP_CODE) != POMURICA_EVENT_RETURN || place == POMURICA_PLACES)
+        return false;
+    if (pomurica_get_word(block, POMURICA_PLACE_CPSR) & POMURICA_CPSR_BITS_24_21)
+        return false;
+    if (is_hyp_with_ns_0(block, mode) || is_ns_el1_with_tge_1(block, mode))
+        return false;
+    return pomurica_get_word(block, place) & POMURICA_CPSR_BITS_24_21;
+}
+
+/* Why an event is refused, where more is to be said than the number; else NULL. */
+static const char *why_refused(const uint8_t *step, uint32_t number)
+{
+    if (number == POMURICA_DISABLED)
+        return why_disabled(step);
+    if (number == POMURICA_BAD_STATE && is_saved_word_bad(step))
+        return "bits 24-21 of the saved word are not 0";
+    return NULL;
+}
+
 static void tell_refusal(FILE *out, const uint8_t *step, uint32_t number)
 {
-    const char *const why = number == POMURICA_DISABLED ? why_disabled(step) : NULL;
+    const char *const why = why_refused(step, number);
 
     fprintf(out, "refused with %" PRIu32 " %s", number, pomurica_number_name(number));
     if (why != NULL)
@@ -312,5 +444,6 @@ void tell_outcome(FILE *out, const uint8_t *step, uint32_t number, uint32_t valu
     case OUTCOME_WRITTEN: fputs("written", out); break;
     case OUTCOME_NOTHING_TAKEN: fputs("takes nothing", out); break;
     case OUTCOME_ENTRY: tell_entry(out, value); break;
+    case OUTCOME_RETURN: tell_return(out, step); break;
     }
 }

@@ -30,7 +30,11 @@ void tell_verdict(FILE *out, const uint8_t *report, uint32_t done);
 /* The warning that goes with an accepted trace in which no Step was done; NULL for any other. */
 const char *warning_of(const uint8_t *report, uint32_t done);
 
-/* The event of a Step: "interrupt check, lines IRQ"; with what is wrong with it: "interrupt check, A 33, above 31". */
+/*
+ * The event of a Step: "interrupt check, lines IRQ"; with what is wrong with it:
+ * "interrupt check, A 33, above 31".  What A of a return may be goes by the mode
+ * before the Step: "exception return, A 4, which must be 0 from Hyp".
+ */
 void tell_event(FILE *out, const uint8_t *step);
 
 /* The words of the event: "code 9, A 0x00000004, B 0x00000000". */
@@ -42,7 +46,11 @@ void tell_state(FILE *out, const uint8_t *block);
 /*
  * What an answer says came of the event of a Step: "enters IRQ mode at 0x18".
  * Of a call that is disabled with the reason, by the block before the Step:
- * "refused with 16 DISABLED (HVC is disabled: SCR.HCE is 0)".
+ * "refused with 16 DISABLED (HVC is disabled: SCR.HCE is 0)"; and so of a return
+ * that its saved word refuses.  Of a return that is done with what the rules make
+ * of it, by that block too: "returns to Non-secure User at 0x00008004", "illegal
+ * return (Hyp is above Exception level 1): stays in Non-secure Supervisor, IL
+ * becomes 1, goes on at 0x00008004".
  */
 void tell_outcome(FILE *out, const uint8_t *step, uint32_t number, uint32_t value);
 

@@ -9,12 +9,16 @@
 #include <inttypes.h>
 #include <string.h>
 
+/* Below the lanes there is a strip for each kind of Step that is marked. */
+enum { STRIPS = SERIES - ENTRIES };
+
 static const char *const LANE_NAMES[LANES] = { "Monitor", "Hyp", "guest", "Secure", "no mode" };
+static const char *const STRIP_NAMES[STRIPS] = { "entries", "returns", "refusals" };
 
 static const char *const STYLES[SERIES] = {
     "monitor", "hyp", "guest", "secure", "none",
     "monitor pale", "hyp pale", "guest pale", "secure pale", "none pale",
-    "entry", "refusal",
+    "entry", "return", "refusal",
 };
 
 /* Widths and heights, in pixels of a page that is not zoomed. */
@@ -33,7 +37,7 @@ enum {
     NUMBERING = 24  /* a column that has room for its Step's number */
 };
 
-/* A bar in each lane of a column, two strips below the lanes, and an axis below the strips. */
+/* A bar in each lane of a column, the strips below the lanes, and an axis below the strips. */
 struct picture {
     const struct row *row;
     unsigned width;       /* of a column */
@@ -68,7 +72,7 @@ static struct picture measure(const struct row *row)
         picture.end_width = 6;
     picture.lane = alone ? 24 : 14;
     picture.strip = alone ? 18 : 13;
-    picture.strips = row->first < row->shown->right ? 2 : 0;
+    picture.strips = row->first < row->shown->right ? STRIPS : 0;
     picture.top = has_flag(row) ? FLAG : 2;
     return picture;
 }
@@ -121,7 +125,10 @@ static void draw_bars(FILE *out, const struct picture *picture, enum series seri
     fputs("\"/>\n", out);
 }
 
-/* The marks of single Steps as one path: an entry is a triangle, a refusal a cross.  Neighbours do not touch. */
+/*
+ * The marks of single Steps as one path: an entry is a triangle that points up, a
+ * return one that points down, a refusal a cross.  Neighbours do not touch.
+ */
 static void draw_marks(FILE *out, const struct picture *picture, enum series series, unsigned y)
 {
     const unsigned high = picture->strip - 6, wide = picture->width - 2;
@@ -138,6 +145,8 @@ static void draw_marks(FILE *out, const struct picture *picture, enum series ser
             continue;
         if (series == ENTRIES)
             fprintf(out, "M%u %ul%u %uh-%uz", middle, y + 2, half, size + 1, 2 * half);
+        else if (series == RETURNS)
+            fprintf(out, "M%u %ul%u-%uh-%uz", middle, y + 3 + size, half, size + 1, 2 * half);
         else
             fprintf(out, "M%u %ul%u %um0-%ul-%u %u", middle - size / 2, y + 3, size, size, size, size, size);
     }
@@ -191,12 +200,10 @@ static void draw_modes(FILE *out, const struct picture *picture)
 
 static void draw_strips(FILE *out, const struct picture *picture)
 {
-    static const char *const NAMES[] = { "entries", "refusals" };
-
     for (unsigned strip = 0; strip < picture->strips; strip++) {
         const unsigned y = strip_y(picture, strip), height = picture->strip;
 
-        put_line_name(out, NAMES[strip], y, height);
+        put_line_name(out, STRIP_NAMES[strip], y, height);
         if (is_single(picture->row->spread))
             draw_marks(out, picture, ENTRIES + strip, y);
         else
@@ -249,13 +256,20 @@ static int fitting(const char *name, unsigned width)
     return (int)length;
 }
 
+/* The name of an event below its column.  Of "exception return" the first word alone would say something else. */
+static const char *column_name(const uint8_t *step)
+{
+    const uint32_t code = pomurica_get_word(step, POMURICA_STEP_CODE);
+
+    return code == POMURICA_EVENT_RETURN ? "return" : event_name(code);
+}
+
 static void name_events(FILE *out, const struct picture *picture)
 {
     const struct row *const row = picture->row;
 
     for (uint32_t index = row->first; index < row->last; index++) {
-        const uint8_t *const step = row->shown->trace + step_place(index);
-        const char *const name = event_name(pomurica_get_word(step, POMURICA_STEP_CODE));
+        const char *const name = column_name(row->shown->trace + step_place(index));
 
         if (name == NULL)
             continue;

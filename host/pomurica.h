@@ -104,9 +104,9 @@ enum pomurica_number {
     POMURICA_DONE = 0,        /* the step was done; the trace is accepted */
     POMURICA_BAD_SIZE = 1,    /* a buffer has not its size; nothing was written */
     POMURICA_BAD_MODE = 2,    /* the mode of CPSR is not one of the nine */
-    POMURICA_BAD_STATE = 3,   /* CPSR bits 24-21, Hyp with NS 0, or Non-secure EL1 with TGE 1 */
+    POMURICA_BAD_STATE = 3,   /* CPSR bits 24-21, of a return the SPSR's too, Hyp with NS 0, or Non-secure EL1 with TGE 1 */
     POMURICA_BAD_EVENT = 4,   /* unknown code, or an operand out of its range */
-    POMURICA_NOT_HERE = 5,    /* the event cannot happen in this mode and state */
+    POMURICA_NOT_HERE = 5,    /* the event cannot happen in this mode and state, as a return in User or System */
     POMURICA_NO_REGISTER = 6, /* banked access: no register has this number */
     POMURICA_NO_RIGHT = 7,    /* banked access: not allowed from this mode and state */
     POMURICA_SHORT = 8,       /* the trace ends before the record due */
@@ -136,8 +136,27 @@ enum pomurica_code {
     POMURICA_EVENT_INTERRUPT_CHECK = 9, /* A: enum pomurica_line, added up */
     POMURICA_EVENT_BANKED_READ = 10,    /* A: 32 * R + SYSm of the MRS instruction, 0 to 63 */
     POMURICA_EVENT_BANKED_WRITE = 11,   /* A: 32 * R + SYSm of the MSR instruction; B: the new word */
-    POMURICA_EVENT_NOTE = 12            /* ordinary code changed a word.  A: its place; B: the new word */
+    POMURICA_EVENT_NOTE = 12,           /* ordinary code changed a word.  A: its place; B: the new word */
+    POMURICA_EVENT_RETURN = 13          /* exception return.  A: what is taken off LR, 0, 2, 4 or 8; from Hyp 0 */
 };
+
+/*
+ * An exception return takes the saved word, the current mode's SPSR, and an
+ * address: from Hyp ELR_hyp, elsewhere the mode's LR less A, wrapping.  User and
+ * System have no SPSR.  PC becomes the address, with its lowest bit cleared where
+ * T of the saved word is 1, else its lowest two.  CPSR becomes the saved word
+ * where the return is legal.  It is illegal where the mode of the saved word is
+ *   - none of the nine;
+ *   - of a higher Exception level than the current mode: User is at 0, Hyp at 2,
+ *     Monitor at 3, any other mode at 1 with NS 1 and at 3 with NS 0;
+ *   - Hyp, with NS 0;
+ *   - FIQ, IRQ, Supervisor, Abort, Undefined or System, with NS 1 and TGE 1.
+ * Then the mode stays, IL becomes 1, and the rest is as in a legal one: an illegal
+ * return is done too.  From a good block a return is refused, by the first of
+ * these that applies, with POMURICA_BAD_STATE where any of bits 24-21 of the saved
+ * word is set, with POMURICA_BAD_EVENT for another A or a B, and with
+ * POMURICA_NOT_HERE in User and System.
+ */
 
 /* A of an abort. */
 enum pomurica_abort {
@@ -297,7 +316,8 @@ enum pomurica_told_word {
  *
  * The value of a done step: an entry, which * 65536 + mode * 256 + offset of
  * the vector; an interrupt check that takes nothing, 0; a banked read, the
- * word; a banked write or a note, 0.  The value of a refused step is 0.
+ * word; a banked write, a note or a return, legal or not, 0.  The value of a
+ * refused step is 0.
  */
 uint32_t pomurica_step(uint8_t *block, size_t block_len,
                        uint32_t code, uint32_t a, uint32_t b,
@@ -464,9 +484,9 @@ uint32_t pomurica_explain(const uint8_t *trace, size_t trace_len,
  * i of group g is word 32 * (g - 1) + i; words without a meaning stay as they are.
  */
 enum pomurica_group {
-    POMURICA_GROUP_CODE = 1,   /* Steps by event code; a code that the rules do not know counts under 0 */
+    POMURICA_GROUP_CODE = 1,   /* Steps by event code, 1 to 13; a code that the rules do not know counts under 0 */
     POMURICA_GROUP_ANSWER = 2, /* Steps by answer number: they add up to all Steps */
-    POMURICA_GROUP_TARGET = 3, /* entries by the mode that they entered, 16 to 31 (enum pomurica_mode) */
+    POMURICA_GROUP_TARGET = 3, /* entries by the mode that they entered, 16 to 31 (enum pomurica_mode); a return is none */
     POMURICA_GROUP_TAKEN = 4,  /* done interrupt checks by what they took (enum pomurica_which); 0 for nothing */
     POMURICA_GROUPS = 4,
     POMURICA_GROUP_SIZE = 32

@@ -28,9 +28,16 @@ static inline const uint8_t *block_after(const uint8_t *step)
     return step + 4 * POMURICA_STEP_BLOCK;
 }
 
+/* The mode of a block, which may be none. */
+static inline uint32_t mode_of(const uint8_t *block)
+{
+    return pomurica_get_word(block, POMURICA_PLACE_CPSR) & POMURICA_CPSR_MODE;
+}
+
 /* What came of an event. */
 enum outcome {
-    OUTCOME_REFUSED, OUTCOME_READ, OUTCOME_WRITTEN, OUTCOME_NOTHING_TAKEN, OUTCOME_ENTRY
+    OUTCOME_REFUSED, OUTCOME_READ, OUTCOME_WRITTEN, OUTCOME_NOTHING_TAKEN, OUTCOME_ENTRY,
+    OUTCOME_RETURN /* legal or not */
 };
 
 static inline enum outcome outcome_of(uint32_t code, uint32_t number, uint32_t value)
@@ -41,6 +48,8 @@ static inline enum outcome outcome_of(uint32_t code, uint32_t number, uint32_t v
         return OUTCOME_READ;
     if (code == POMURICA_EVENT_BANKED_WRITE || code == POMURICA_EVENT_NOTE)
         return OUTCOME_WRITTEN;
+    if (code == POMURICA_EVENT_RETURN)
+        return OUTCOME_RETURN;
     return code == POMURICA_EVENT_INTERRUPT_CHECK && value == 0 ? OUTCOME_NOTHING_TAKEN : OUTCOME_ENTRY;
 }
 

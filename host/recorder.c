@@ -50,7 +50,8 @@ static const char HELP[] =
     "                      most once; words that are not given are 0\n"
     "    EVENT OPERANDS    an event, at most 65535 of them\n"
     "\n"
-    "An interrupt check names the lines that are set, an abort what it is, in any order.\n"
+    "An interrupt check names the lines that are set, an abort what it is, in any order,\n"
+    "a return what it takes off LR, if anything: from Hyp it takes ELR_hyp as it is.\n"
     "Behind `event` stand code, A and B as numbers, for events that no other word makes,\n"
     "bad ones among them.\n"
     "\n";

@@ -44,6 +44,16 @@ static bool take_word(struct reader *reader, const struct words *words, uint32_t
     return find_word(words, token.text, token.length, number) || refuse_word(reader, &token, words);
 }
 
+/* One of the words, or the end of the line, which leaves the number as it is. */
+static bool take_choice(struct reader *reader, const struct words *words, uint32_t *number)
+{
+    struct token token;
+
+    if (!take_token(reader, &token))
+        return false;
+    return token.length == 0 || find_word(words, token.text, token.length, number) || refuse_word(reader, &token, words);
+}
+
 /* Any of the words, up to the end of the line; their numbers are bits of their own. */
 static bool take_flags(struct reader *reader, const struct words *words, uint32_t *sum)
 {
@@ -142,6 +152,7 @@ static bool take_operand(struct reader *reader, enum operand operand, struct pom
     case LINE_FLAGS: return take_flags(reader, &LINES, &event->a);
     case REGISTER: return take_word(reader, &REGISTERS, &event->a);
     case PLACE: return take_word(reader, &PLACES, &event->a);
+    case AMOUNT: return take_choice(reader, &AMOUNTS, &event->a);
     case CODE_NUMBER: return take_number(reader, &event->code);
     case A_NUMBER: return take_number(reader, &event->a);
     case NEW_WORD:

@@ -16,7 +16,7 @@ static void tell_columns(FILE *out, const struct spread *spread)
     else
         fprintf(out,
                 "<p>A column is %" PRIu32 " Steps. The height of a bar is the share of them that were in the mode, "
-                "or were entries or refusals; a single one still shows.</p>\n",
+                "or were entries, returns or refusals; a single one still shows.</p>\n",
                 spread->per_column);
 }
 
@@ -47,6 +47,9 @@ static void tell_signs(FILE *out, const struct shown *shown, const struct spread
     tell_counted(out, is_single(spread) ? "<path class=\"entry\" d=\"M8 3l4 8h-8z\"/>"
                                         : "<path class=\"entry\" d=\"M5 1h6v12h-6z\"/>",
                  "entries, which took an exception", count_right(shown, OUTCOME_ENTRY));
+    tell_counted(out, is_single(spread) ? "<path class=\"return\" d=\"M8 11l4-8h-8z\"/>"
+                                        : "<path class=\"return\" d=\"M5 1h6v12h-6z\"/>",
+                 "returns, legal or not", count_right(shown, OUTCOME_RETURN));
     tell_counted(out, is_single(spread) ? "<path class=\"refusal\" d=\"M5 4l6 6m0-6l-6 6\"/>"
                                         : "<path class=\"refusal\" d=\"M5 1h6v12h-6z\"/>",
                  "refusals, by the rules", count_right(shown, OUTCOME_REFUSED));

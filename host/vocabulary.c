@@ -30,6 +30,7 @@ static const struct event {
     [POMURICA_EVENT_BANKED_READ] = { "read", { REGISTER } },
     [POMURICA_EVENT_BANKED_WRITE] = { "write", { REGISTER, NEW_WORD } },
     [POMURICA_EVENT_NOTE] = { "note", { PLACE, NEW_WORD } },
+    [POMURICA_EVENT_RETURN] = { "return", { AMOUNT } },
 };
 
 static const char *const ABORT_TABLE[] = {
@@ -45,7 +46,10 @@ static const char *const LINE_TABLE[] = {
     [POMURICA_LINE_VIRTUAL_IRQ] = "virtual-IRQ",
 };
 
-/* How --help shows an operand that is no flag. */
+/* The amounts of the manual's returns; without a word nothing is taken off. */
+static const char *const AMOUNT_TABLE[] = { [2] = "less-2", [4] = "less-4", [8] = "less-8" };
+
+/* How --help shows an operand that is no flag and no amount. */
 static const char *const OPERAND_TABLE[] = {
     [REGISTER] = "REGISTER", [PLACE] = "PLACE",  [NEW_WORD] = "NUMBER",
     [CODE_NUMBER] = "CODE",  [A_NUMBER] = "A",   [B_NUMBER] = "B",
@@ -66,11 +70,17 @@ static const char *line_word(uint32_t number)
     return LINE_TABLE[number];
 }
 
+static const char *amount_word(uint32_t number)
+{
+    return AMOUNT_TABLE[number];
+}
+
 const struct words EVENTS = { "an event", COUNT_OF(EVENT_TABLE), event_word };
 const struct words PLACES = { "a place of the block", POMURICA_PLACES, register_name };
 const struct words REGISTERS = { "a banked register", CELLS, banked_name };
 const struct words ABORTS = { "a kind of abort", COUNT_OF(ABORT_TABLE), abort_word };
 const struct words LINES = { "an interrupt line", COUNT_OF(LINE_TABLE), line_word };
+const struct words AMOUNTS = { "an amount to take off LR", COUNT_OF(AMOUNT_TABLE), amount_word };
 
 const enum operand *operands_of(uint32_t code)
 {
@@ -125,12 +135,27 @@ static void tell_flags(FILE *out, const struct words *words)
             fprintf(out, " [%s]", words->word(i));
 }
 
+/* One of the words, or none of them. */
+static void tell_choice(FILE *out, const struct words *words)
+{
+    const char *before = " [";
+
+    for (uint32_t i = 0; i < words->end; i++)
+        if (words->word(i) != NULL) {
+            fprintf(out, "%s%s", before, words->word(i));
+            before = "|";
+        }
+    fputc(']', out);
+}
+
 static void tell_operand(FILE *out, enum operand operand)
 {
     if (operand == ABORT_FLAGS)
         tell_flags(out, &ABORTS);
     else if (operand == LINE_FLAGS)
         tell_flags(out, &LINES);
+    else if (operand == AMOUNT)
+        tell_choice(out, &AMOUNTS);
     else
         fprintf(out, " %s", OPERAND_TABLE[operand]);
 }

@@ -1,7 +1,7 @@
 /*
- * The words of a script (script.h): each event, line and kind of abort has one,
- * and stands here in a table by its number; a register and a place have their
- * name in phrases.h, which the console shows.
+ * The words of a script (script.h): each event, line, kind of abort and amount
+ * taken off LR has one, and stands here in a table by its number; a register and
+ * a place have their name in phrases.h, which the console shows.
  */
 #ifndef VOCABULARY_H
 #define VOCABULARY_H
@@ -23,12 +23,14 @@ extern const struct words PLACES;    /* by place of the block */
 extern const struct words REGISTERS; /* by A of a banked access */
 extern const struct words ABORTS;    /* enum pomurica_abort */
 extern const struct words LINES;     /* enum pomurica_line */
+extern const struct words AMOUNTS;   /* by A of a return, above 0: what is taken off LR */
 
 /* What follows the word of an event. */
 enum operand {
     NO_OPERAND,
     ABORT_FLAGS, LINE_FLAGS, /* any of the words, each at most once, in any order: A is their sum */
     REGISTER, PLACE,         /* one word: A */
+    AMOUNT,                  /* one word, or none: A */
     NEW_WORD,                /* a number: B */
     CODE_NUMBER, A_NUMBER, B_NUMBER
 };

@@ -32,10 +32,13 @@ struct counts {
 /* No. 1: "all codes that the rules do not know under the one number 0". */
 static uint32_t known_code(uint32_t code)
 {
-    return code <= CODE_NOTE ? code : 0;
+    return code < CODES ? code : 0;
 }
 
-/* Answer numbers: of a done step, whether it is an entry; of codes 1-9 only "nothing taken" has the value 0. */
+/*
+ * Answer numbers: of a done step, whether it is an entry; of codes 1-9 only "nothing taken" has the value 0.  No. 9: a
+ * return is taken "under code 13 and not as an entry".
+ */
 static bool is_entry(uint32_t code, uint32_t value)
 {
     return code <= CODE_INTERRUPT_CHECK && value != 0;

@@ -1,7 +1,7 @@
 /*
- * The step, in the order of document 01, with No. 5 and No. 8 of document 02.
- * The block's bytes are read into words once, every rule speaks of words, and
- * they go back as bytes only when the step is DONE.
+ * The step, in the order of document 01, with No. 5, No. 8 and No. 9 of document
+ * 02.  The block's bytes are read into words once, every rule speaks of words,
+ * and they go back as bytes only when the step is DONE.
  */
 #include "second.h"
 #include "words.h"
@@ -102,7 +102,7 @@ struct event {
     uint32_t code, a, b;
 };
 
-/* Events: the largest A and B of each code; 0 where the paper names none. */
+/* Events: the largest A and B of each code; 0 where the paper names none; for A of a return see is_taken_off. */
 static const struct {
     uint32_t a, b;
 } LARGEST[CODES] = {
@@ -118,6 +118,7 @@ static const struct {
     [CODE_BANKED_READ]     = { 63, 0 },
     [CODE_BANKED_WRITE]    = { 63, UINT32_MAX },
     [CODE_NOTE]            = { 43, UINT32_MAX },
+    [CODE_RETURN]          = { 8, 0 },
 };
 
 /* Events: codes 5 and 6. */
@@ -153,6 +154,11 @@ static bool is_smc_trapped(const struct block *block);
 static uint32_t register_of(const struct event *event);
 static bool is_allowed(const struct block *block, uint32_t place);
 
+/* The return, below: the saved word, if the mode has one, and the A that may be taken off its LR. */
+static bool has_saved_word(const struct block *block);
+static uint32_t saved_word(const struct block *block);
+static bool is_taken_off(const struct block *block, uint32_t a);
+
 /* Answer numbers: a cell that holds no register. */
 #define NONE PLACES
 
@@ -166,15 +172,23 @@ static enum number refusal_of_block(const struct block *block)
     return DONE;
 }
 
-/* Answer numbers: row 4. */
-static bool is_bad_event(const struct event *event)
+/* No. 9: "A saved word with any of bits 24-21 set is BAD_STATE"; User and System have none. */
+static bool is_bad_saved_word(const struct block *block, const struct event *event)
 {
-    if (event->code < CODE_UNDEFINED || event->code > CODE_NOTE)
+    return event->code == CODE_RETURN && has_saved_word(block) && (saved_word(block) & CPSR_24_TO_21) != 0;
+}
+
+/* Answer numbers: row 4; No. 9: "other A is BAD_EVENT". */
+static bool is_bad_event(const struct block *block, const struct event *event)
+{
+    if (event->code < CODE_UNDEFINED || event->code >= CODES)
+        return true;
+    if (event->code == CODE_RETURN && !is_taken_off(block, event->a))
         return true;
     return event->a > LARGEST[event->code].a || event->b > LARGEST[event->code].b;
 }
 
-/* Answer numbers: row 5. */
+/* Answer numbers: row 5; No. 9: "User and System have none and get NOT_HERE". */
 static bool is_not_here(const struct block *block, const struct event *event)
 {
     const uint32_t mode = mode_of(block);
@@ -187,6 +201,8 @@ static bool is_not_here(const struct block *block, const struct event *event)
         return is_secure(block) || mode == MODE_HYP;
     if (event->code == CODE_MONITOR_TRAP)
         return mode == MODE_MONITOR;
+    if (event->code == CODE_RETURN)
+        return !has_saved_word(block);
     return false;
 }
 
@@ -222,7 +238,9 @@ static enum number refusal_of(const struct block *block, const struct event *eve
 
     if (number != DONE)
         return number;
-    if (is_bad_event(event))
+    if (is_bad_saved_word(block, event))
+        return BAD_STATE;
+    if (is_bad_event(block, event))
         return BAD_EVENT;
     if (is_not_here(block, event))
         return NOT_HERE;
@@ -405,7 +423,7 @@ static uint32_t link_of(const struct block *block, enum exception exception,
 
 /* ---------------------------------------------------------------- Entry */
 
-/* Entry: by target, where SPSR and link go, and "Masks set"; those of Hyp depend on SCR. */
+/* Entry: by target, where SPSR and link go, which a return (No. 9) takes, and "Masks set"; those of Hyp depend on SCR. */
 static const struct {
     enum place spsr, link;
     uint32_t masks;
@@ -746,6 +764,116 @@ static bool is_allowed(const struct block *block, uint32_t place)
     return true;
 }
 
+/* ----------------------------------------------------------- The return */
+
+/* No. 9: "User and System have none". */
+static bool has_saved_word(const struct block *block)
+{
+    return is_in(mode_of(block), ALL_BUT(ONLY(MODE_USER) | ONLY(MODE_SYSTEM)));
+}
+
+/* No. 9: "The saved word is the current mode's SPSR"; asked only of a mode that has one. */
+static uint32_t saved_word(const struct block *block)
+{
+    return block->word[ENTRY[mode_of(block)].spsr];
+}
+
+/* No. 9: "From Hyp ... A must be 0.  Elsewhere ... A one of 0, 2, 4, 8", in User and System too. */
+static bool is_taken_off(const struct block *block, uint32_t a)
+{
+    if (mode_of(block) == MODE_HYP)
+        return a == 0;
+    return a == 0 || a == 2 || a == 4 || a == 8;
+}
+
+/* The modelled core: "EL0 to EL3". */
+enum level {
+    EL0, EL1, EL2, EL3
+};
+
+/* No. 9: the Exception level of a mode; since EL3 uses AArch32, Secure modes other than User stand there. */
+static enum level level_of(const struct block *block, uint32_t mode)
+{
+    if (mode == MODE_MONITOR)
+        return EL3;
+    if (mode == MODE_HYP)
+        return EL2;
+    if (mode == MODE_USER)
+        return EL0;
+    return is_one(block, SCR, SCR_NS) ? EL1 : EL3;
+}
+
+/* No. 9: "a reserved mode", that is, none of the nine; with bit 4 clear, each. */
+static bool is_reserved_mode(uint32_t mode)
+{
+    return !is_in(mode, ALL_NINE);
+}
+
+/* No. 9: "a higher Exception level", than that of the current mode. */
+static bool is_higher_level(const struct block *block, uint32_t mode)
+{
+    return level_of(block, mode) > level_of(block, mode_of(block));
+}
+
+/* No. 9: "Hyp with NS 0". */
+static bool is_hyp_with_ns_0(const struct block *block, uint32_t mode)
+{
+    return mode == MODE_HYP && !is_one(block, SCR, SCR_NS);
+}
+
+/* No. 9: "Non-secure EL1 with TGE 1", by NS alone: from Monitor with NS 1 too. */
+static bool is_ns_el1_with_tge_1(const struct block *block, uint32_t mode)
+{
+    return is_in(mode, EL1_MODES) && is_one(block, SCR, SCR_NS) && is_one(block, HCR, HCR_TGE);
+}
+
+/* No. 9: "Illegal returns are by the manual's list": a return to this mode, the saved word's. */
+static bool is_illegal(const struct block *block, uint32_t mode)
+{
+    if (is_reserved_mode(mode))
+        return true;
+    if (is_higher_level(block, mode))
+        return true;
+    if (is_hyp_with_ns_0(block, mode))
+        return true;
+    return is_ns_el1_with_tge_1(block, mode);
+}
+
+/* No. 9: "Legal returns set CPSR to the saved word"; illegal: "the mode stays, IL becomes 1, the other fields" as legal. */
+static uint32_t cpsr_of_return(const struct block *block)
+{
+    const uint32_t saved = saved_word(block);
+
+    if (!is_illegal(block, saved & CPSR_MODE))
+        return saved;
+    return with(saved, CPSR_MODE, false) | mode_of(block) | CPSR_IL;
+}
+
+/* No. 9: "the address is ELR_hyp", from Hyp, with A 0; "Elsewhere it is the mode's LR less A", "wrapping". */
+static uint32_t address_of_return(const struct block *block, uint32_t a)
+{
+    return block->word[ENTRY[mode_of(block)].link] - a;
+}
+
+/* No. 9: "PC to the address with its lowest bit cleared if T is 1, else its lowest two"; T is the saved word's, always. */
+static uint32_t pc_of_return(const struct block *block, uint32_t a)
+{
+    const bool t = (saved_word(block) & CPSR_T) != 0;
+
+    return with(address_of_return(block, a), t ? 1 : 3, false);
+}
+
+/* No. 9: the whole of it; "A done return has value 0". */
+static uint32_t perform_return(struct block *block, uint32_t a)
+{
+    const uint32_t cpsr = cpsr_of_return(block);
+    const uint32_t pc = pc_of_return(block, a);
+
+    block->word[CPSR] = cpsr;
+    block->word[PC] = pc;
+    return 0;
+}
+
 /* ------------------------------------------------------------- The step */
 
 /* Answer numbers: what an event not refused does to the block; gives the value. */
@@ -762,6 +890,8 @@ static uint32_t act(struct block *block, const struct event *event)
     case CODE_NOTE:
         block->word[event->a] = event->b;
         return 0;
+    case CODE_RETURN:
+        return perform_return(block, event->a);
     default:
         return enter_by_event(block, event);
     }

@@ -1,7 +1,7 @@
 /*
  * The worked cases of document 01, "Numbers to hold against it", a to l, and
- * cases of our own for No. 1, No. 2, No. 5, No. 6, No. 7 and No. 8 of document
- * 02: each is run and printed.  Exit status 1 if one differs.
+ * cases of our own for No. 1, No. 2, No. 5, No. 6, No. 7, No. 8 and No. 9 of
+ * document 02: each is run and printed.  Exit status 1 if one differs.
  *
  *     cc -std=c11 -Wall -Wextra -Werror -O2 -I../host step.c batch.c check.c count.c session.c record.c test.c -o test &&
  *         ./test
@@ -175,14 +175,16 @@ static const struct {
     { CODE_SMC, 0 },              /* SCD is 1: DISABLED, no entry */
     { CODE_SVC, 1 },              /* BAD_EVENT, under its own code */
     { CODE_INTERRUPT_CHECK, 32 }, /* BAD_EVENT: not done, and so no check that took nothing */
-    { 13, 0 },                    /* BAD_EVENT, under 0 */
+    { CODES, 0 },                 /* BAD_EVENT, under 0 */
+    { CODE_RETURN, 2 },           /* from Hyp with an A: BAD_EVENT, under its own code */
+    { CODE_RETURN, 0 },           /* back to IRQ mode: done, and no entry */
     { CODE_BANKED_READ, 7 },      /* NO_REGISTER */
 };
 
 /* No. 1: what they add up to, once and twice. */
-static const char ONCE[] = "1 0 1\n1 2 1\n1 3 1\n1 4 1\n1 9 3\n1 10 1\n2 0 3\n2 4 3\n2 6 1\n2 16 1\n"
+static const char ONCE[] = "1 0 1\n1 2 1\n1 3 1\n1 4 1\n1 9 3\n1 10 1\n1 13 2\n2 0 4\n2 4 4\n2 6 1\n2 16 1\n"
                            "3 18 1\n3 26 1\n4 0 1\n4 3 1\n";
-static const char TWICE[] = "1 0 2\n1 2 2\n1 3 2\n1 4 2\n1 9 6\n1 10 2\n2 0 6\n2 4 6\n2 6 2\n2 16 2\n"
+static const char TWICE[] = "1 0 2\n1 2 2\n1 3 2\n1 4 2\n1 9 6\n1 10 2\n1 13 4\n2 0 8\n2 4 8\n2 6 2\n2 16 2\n"
                             "3 18 2\n3 26 2\n4 0 2\n4 3 2\n";
 
 /* The trace: the lengths of the records, and of the trace of COUNTED. */
@@ -978,6 +980,476 @@ static void run_calls(void)
         run_caller(&CALLERS[i]);
 }
 
+/* No. 9: the modes that have a saved word: where it stands, and the address. */
+static const struct returner {
+    uint32_t mode;
+    enum place spsr, link;
+} RETURNERS[] = {
+    { MODE_FIQ,        SPSR_fiq, LR_fiq },
+    { MODE_IRQ,        SPSR_irq, LR_irq },
+    { MODE_SUPERVISOR, SPSR_svc, LR_svc },
+    { MODE_MONITOR,    SPSR_mon, LR_mon },
+    { MODE_ABORT,      SPSR_abt, LR_abt },
+    { MODE_HYP,        SPSR_hyp, ELR_hyp },
+    { MODE_UNDEFINED,  SPSR_und, LR_und },
+};
+
+/* No. 9: a return: the words of its block that steer, and A and B. */
+struct going_back {
+    uint32_t cpsr, scr, hcr;
+    uint32_t saved, link; /* the mode's SPSR and LR, of Hyp ELR_hyp */
+    uint32_t a, b;
+};
+
+enum {
+    OLD_FIELDS = 0x680A01C0, /* of CPSR beside the mode: none of them stays */
+    OTHER_WORD = 0x01E00100  /* of a place that steers no return, and the place; as a saved word it would be BAD_STATE */
+};
+
+/* No. 9: the block of a return; a mode without a saved word finds none. */
+static void put_returning(uint8_t *block, const struct going_back *going)
+{
+    for (uint32_t place = 0; place < PLACES; place++)
+        put_word(block + 4 * place, OTHER_WORD + place);
+    put_word(block + 4 * CPSR, going->cpsr);
+    put_word(block + 4 * SCR, going->scr);
+    put_word(block + 4 * HCR, going->hcr);
+    for (size_t i = 0; i < sizeof RETURNERS / sizeof RETURNERS[0]; i++) {
+        if (RETURNERS[i].mode == (going->cpsr & CPSR_MODE)) {
+            put_word(block + 4 * RETURNERS[i].spsr, going->saved);
+            put_word(block + 4 * RETURNERS[i].link, going->link);
+        }
+    }
+}
+
+/* No. 9: whether the return gives this number, "A done return has value 0", and leaves the block with these two words. */
+static bool goes_back(const struct going_back *going, uint32_t number, uint32_t cpsr, uint32_t pc)
+{
+    uint8_t due[BLOCK_SIZE], block[BLOCK_SIZE], answer[ANSWER_SIZE];
+    uint32_t returned;
+
+    put_returning(block, going);
+    put_returning(due, going);
+    put_word(due + 4 * CPSR, cpsr);
+    put_word(due + 4 * PC, pc);
+    memset(answer, 0xAA, sizeof answer);
+    returned = second_step(block, sizeof block, CODE_RETURN, going->a, going->b, answer, sizeof answer);
+    return returned == number && get_word(answer) == number && get_word(answer + 4) == 0 &&
+           memcmp(block, due, sizeof block) == 0;
+}
+
+/* No. 9: whether the return is refused with this number: "block unchanged". */
+static bool stays(const struct going_back *going, uint32_t number)
+{
+    return goes_back(going, number, going->cpsr, OTHER_WORD + PC);
+}
+
+/* No. 9: done returns, and CPSR and PC behind them. */
+static const struct return_case {
+    const char *name;
+    uint32_t mode, scr, hcr;
+    uint32_t saved, link, a;
+    uint32_t cpsr, pc;
+} RETURN_CASES[] = {
+    /* "Legal returns set CPSR to the saved word": each mode with one, Secure too. */
+    { "FIQ",          MODE_FIQ,        SCR_NS, 0, 0x10,  0x8004, 4, 0x10,  0x8000 },
+    { "IRQ",          MODE_IRQ,        SCR_NS, 0, 0x153, 0x8004, 4, 0x153, 0x8000 },
+    { "Supervisor",   MODE_SUPERVISOR, SCR_NS, 0, 0x1F,  0x8004, 0, 0x1F,  0x8004 },
+    { "Abort",        MODE_ABORT,      SCR_NS, 0, 0x97,  0x8008, 8, 0x97,  0x8000 },
+    { "Undefined",    MODE_UNDEFINED,  SCR_NS, 0, 0x30,  0x8002, 2, 0x30,  0x8000 },
+    { "Monitor",      MODE_MONITOR,    SCR_NS, 0, 0x1DA, 0x8004, 4, 0x1DA, 0x8000 },
+    { "Hyp",          MODE_HYP,        SCR_NS, 0, 0x92,  0x8000, 0, 0x92,  0x8000 },
+    { "Secure FIQ",   MODE_FIQ,        0,      0, 0x10,  0x8004, 4, 0x10,  0x8000 },
+    { "Secure Mon",   MODE_MONITOR,    0,      0, 0x1F,  0x8004, 4, 0x1F,  0x8000 },
+    { "Secure und",   MODE_UNDEFINED,  0,      0, 0x30,  0x8002, 2, 0x30,  0x8000 },
+
+    /* "its lowest bit cleared if T is 1, else its lowest two", of the address, and so behind the subtraction. */
+    { "T 0, odd",     MODE_SUPERVISOR, SCR_NS, 0, 0x10,  0x8007, 0, 0x10,  0x8004 },
+    { "T 0, bit 1",   MODE_SUPERVISOR, SCR_NS, 0, 0x10,  0x8006, 0, 0x10,  0x8004 },
+    { "T 1, odd",     MODE_SUPERVISOR, SCR_NS, 0, 0x30,  0x8007, 0, 0x30,  0x8006 },
+    { "T 1, bit 1",   MODE_SUPERVISOR, SCR_NS, 0, 0x30,  0x8006, 0, 0x30,  0x8006 },
+    { "T 0, less 2",  MODE_SUPERVISOR, SCR_NS, 0, 0x10,  0x8005, 2, 0x10,  0x8000 },
+    { "T 1, less 2",  MODE_SUPERVISOR, SCR_NS, 0, 0x30,  0x8005, 2, 0x30,  0x8002 },
+    { "Hyp, T 0",     MODE_HYP,        SCR_NS, 0, 0x13,  0x8003, 0, 0x13,  0x8000 },
+    { "Hyp, T 1",     MODE_HYP,        SCR_NS, 0, 0x33,  0x8003, 0, 0x33,  0x8002 },
+
+    /* "the mode's LR less A", "wrapping". */
+    { "4 less 8",     MODE_ABORT,      SCR_NS, 0, 0x10,  4,      8, 0x10,  0xFFFFFFFC },
+    { "0 less 2",     MODE_UNDEFINED,  SCR_NS, 0, 0x30,  0,      2, 0x30,  0xFFFFFFFE },
+    { "1 less 2",     MODE_UNDEFINED,  SCR_NS, 0, 0x10,  1,      2, 0x10,  0xFFFFFFFC },
+    { "3 less 4",     MODE_MONITOR,    0,      0, 0x33,  3,      4, 0x33,  0xFFFFFFFE },
+
+    /* Every field is copied, IT and IL too; bits 25 and 20 are not among "bits 24-21". */
+    { "all fields",   MODE_SUPERVISOR, SCR_NS, 0, 0xFE1FFFF0, 0x8000, 0, 0xFE1FFFF0, 0x8000 },
+    { "no field",     MODE_SUPERVISOR, SCR_NS, 0, 0x10,       0x8000, 0, 0x10,       0x8000 },
+    { "bits 25, 20",  MODE_SUPERVISOR, SCR_NS, 0, 0x02100010, 0x8000, 0, 0x02100010, 0x8000 },
+    { "IT, Hyp",      MODE_HYP,        SCR_NS, 0, 0x0600FC33, 0x8002, 0, 0x0600FC33, 0x8002 },
+
+    /* "the mode stays, IL becomes 1, the other fields and the address as in the legal case". */
+    { "illegal, all", MODE_SUPERVISOR, SCR_NS, 0, 0xFE1FFFFA, 0x8007, 4, 0xFE1FFFF3, 0x8002 },
+    { "IL 0",         MODE_SUPERVISOR, SCR_NS, 0, 0xFE0FFFFA, 0x8007, 4, 0xFE1FFFF3, 0x8002 },
+    { "illegal, T 0", MODE_SUPERVISOR, SCR_NS, 0, 0x1A,       0x8007, 4, 0x100013,   0x8000 },
+    { "illegal, A 8", MODE_ABORT,      SCR_NS, 0, 0x16,       4,      8, 0x100017,   0xFFFFFFFC },
+    { "illegal, Hyp", MODE_HYP,        SCR_NS, 0, 0x0600FC36, 0x8003, 0, 0x0610FC3A, 0x8002 },
+
+    /* "a reserved mode", bit 4 clear included; beside it a mode that there is. */
+    { "0x13",         MODE_IRQ,        SCR_NS, 0, 0x13, 0x8000, 0, 0x13,     0x8000 },
+    { "0x03",         MODE_IRQ,        SCR_NS, 0, 0x03, 0x8000, 0, 0x100012, 0x8000 },
+    { "0x14",         MODE_IRQ,        SCR_NS, 0, 0x14, 0x8000, 0, 0x100012, 0x8000 },
+    { "0x1E, Hyp",    MODE_HYP,        SCR_NS, 0, 0x1E, 0x8000, 0, 0x10001A, 0x8000 },
+    { "0x1F, Hyp",    MODE_HYP,        SCR_NS, 0, 0x1F, 0x8000, 0, 0x1F,     0x8000 },
+    { "0, Monitor",   MODE_MONITOR,    0,      0, 0x00, 0x8000, 0, 0x100016, 0x8000 },
+    { "0x15, Mon",    MODE_MONITOR,    0,      0, 0x15, 0x8000, 0, 0x100016, 0x8000 },
+    { "0x16, Mon",    MODE_MONITOR,    0,      0, 0x16, 0x8000, 0, 0x16,     0x8000 },
+
+    /* "a higher Exception level"; beside it the level itself.  Secure modes other than User stand at EL3. */
+    { "EL1 to Hyp",   MODE_SUPERVISOR, SCR_NS, 0, 0x1A, 0x8000, 0, 0x100013, 0x8000 },
+    { "EL1 to EL1",   MODE_SUPERVISOR, SCR_NS, 0, 0x1B, 0x8000, 0, 0x1B,     0x8000 },
+    { "EL1 to Mon",   MODE_SUPERVISOR, SCR_NS, 0, 0x16, 0x8000, 0, 0x100013, 0x8000 },
+    { "svc to Mon",   MODE_SUPERVISOR, 0,      0, 0x16, 0x8000, 0, 0x16,     0x8000 },
+    { "Hyp to Mon",   MODE_HYP,        SCR_NS, 0, 0x16, 0x8000, 0, 0x10001A, 0x8000 },
+    { "Hyp to Hyp",   MODE_HYP,        SCR_NS, 0, 0x1A, 0x8000, 0, 0x1A,     0x8000 },
+    { "Mon to Mon",   MODE_MONITOR,    SCR_NS, 0, 0x16, 0x8000, 0, 0x16,     0x8000 },
+
+    /* "Hyp with NS 0". */
+    { "Hyp, NS 0",    MODE_MONITOR,    0,      0, 0x1A, 0x8000, 0, 0x100016, 0x8000 },
+    { "Hyp, NS 1",    MODE_MONITOR,    SCR_NS, 0, 0x1A, 0x8000, 0, 0x1A,     0x8000 },
+    { "svc to Hyp",   MODE_SUPERVISOR, 0,      0, 0x1A, 0x8000, 0, 0x100013, 0x8000 },
+
+    /* "Non-secure EL1 with TGE 1"; with NS 0 TGE plays no part, and User and Hyp are no EL1. */
+    { "Hyp, TGE 1",   MODE_HYP,     SCR_NS, HCR_TGE, 0x13, 0x8000, 0, 0x10001A, 0x8000 },
+    { "Hyp, TGE 0",   MODE_HYP,     SCR_NS, 0,       0x13, 0x8000, 0, 0x13,     0x8000 },
+    { "Hyp to User",  MODE_HYP,     SCR_NS, HCR_TGE, 0x10, 0x8000, 0, 0x10,     0x8000 },
+    { "Mon, TGE 1",   MODE_MONITOR, SCR_NS, HCR_TGE, 0x13, 0x8000, 0, 0x100016, 0x8000 },
+    { "Mon, TGE 0",   MODE_MONITOR, SCR_NS, 0,       0x13, 0x8000, 0, 0x13,     0x8000 },
+    { "Mon, NS 0",    MODE_MONITOR, 0,      HCR_TGE, 0x13, 0x8000, 0, 0x13,     0x8000 },
+    { "to System",    MODE_MONITOR, SCR_NS, HCR_TGE, 0x1F, 0x8000, 0, 0x100016, 0x8000 },
+    { "Mon to User",  MODE_MONITOR, SCR_NS, HCR_TGE, 0x10, 0x8000, 0, 0x10,     0x8000 },
+    { "Mon to Hyp",   MODE_MONITOR, SCR_NS, HCR_TGE, 0x1A, 0x8000, 0, 0x1A,     0x8000 },
+    { "svc, TGE 1",   MODE_SUPERVISOR, 0,   HCR_TGE, 0x12, 0x8000, 0, 0x12,     0x8000 },
+};
+
+static void run_return(const struct return_case *due)
+{
+    const struct going_back going = { OLD_FIELDS | due->mode, due->scr, due->hcr, due->saved, due->link, due->a, 0 };
+
+    printf("%-12s  CPSR 0x%X, PC 0x%X", due->name, (unsigned)due->cpsr, (unsigned)due->pc);
+    tell(goes_back(&going, DONE, due->cpsr, due->pc));
+}
+
+/* No. 9: sets of modes, one bit for each mode number. */
+#define TO(mode) (UINT32_C(1) << (mode))
+#define TO_EL1 (TO(MODE_FIQ) | TO(MODE_IRQ) | TO(MODE_SUPERVISOR) | TO(MODE_ABORT) | TO(MODE_UNDEFINED) | TO(MODE_SYSTEM))
+#define TO_EL0 TO(MODE_USER)
+#define NOWHERE_GOOD 0 /* with TGE 1 such a block is not good */
+
+/* No. 9: where a legal return can go from every mode that has a saved word, by TGE. */
+static const struct leaving {
+    const char *name;
+    uint32_t mode, ns;
+    uint32_t legal[2];
+} LEAVINGS[] = {
+    { "FIQ",           MODE_FIQ,        0, { TO_EL0 | TO_EL1 | TO(MODE_MONITOR), TO_EL0 | TO_EL1 | TO(MODE_MONITOR) } },
+    { "IRQ",           MODE_IRQ,        0, { TO_EL0 | TO_EL1 | TO(MODE_MONITOR), TO_EL0 | TO_EL1 | TO(MODE_MONITOR) } },
+    { "Supervisor",    MODE_SUPERVISOR, 0, { TO_EL0 | TO_EL1 | TO(MODE_MONITOR), TO_EL0 | TO_EL1 | TO(MODE_MONITOR) } },
+    { "Monitor",       MODE_MONITOR,    0, { TO_EL0 | TO_EL1 | TO(MODE_MONITOR), TO_EL0 | TO_EL1 | TO(MODE_MONITOR) } },
+    { "Abort",         MODE_ABORT,      0, { TO_EL0 | TO_EL1 | TO(MODE_MONITOR), TO_EL0 | TO_EL1 | TO(MODE_MONITOR) } },
+    { "Undefined",     MODE_UNDEFINED,  0, { TO_EL0 | TO_EL1 | TO(MODE_MONITOR), TO_EL0 | TO_EL1 | TO(MODE_MONITOR) } },
+    { "NS FIQ",        MODE_FIQ,        1, { TO_EL0 | TO_EL1, NOWHERE_GOOD } },
+    { "NS IRQ",        MODE_IRQ,        1, { TO_EL0 | TO_EL1, NOWHERE_GOOD } },
+    { "NS Supervisor", MODE_SUPERVISOR, 1, { TO_EL0 | TO_EL1, NOWHERE_GOOD } },
+    { "NS Abort",      MODE_ABORT,      1, { TO_EL0 | TO_EL1, NOWHERE_GOOD } },
+    { "NS Undefined",  MODE_UNDEFINED,  1, { TO_EL0 | TO_EL1, NOWHERE_GOOD } },
+    { "Hyp",           MODE_HYP,        1, { TO_EL0 | TO_EL1 | TO(MODE_HYP), TO_EL0 | TO(MODE_HYP) } },
+    { "NS Monitor",    MODE_MONITOR,    1, { TO_EL0 | TO_EL1 | TO(MODE_HYP) | TO(MODE_MONITOR),
+                                             TO_EL0 | TO(MODE_HYP) | TO(MODE_MONITOR) } },
+};
+
+/* No. 9: whether a return to a mode number, legal or not, is as due. */
+static bool leaves(const struct leaving *leaving, uint32_t tge, uint32_t mode)
+{
+    const uint32_t legal = leaving->legal[tge];
+    const struct going_back going = { OLD_FIELDS | leaving->mode, leaving->ns * SCR_NS, tge * HCR_TGE, mode, 0x8004, 0, 0 };
+
+    if (legal == NOWHERE_GOOD)
+        return stays(&going, BAD_STATE);
+    return goes_back(&going, DONE, (legal & TO(mode)) != 0 ? mode : leaving->mode | CPSR_IL, 0x8004);
+}
+
+/* No. 9: from one mode to each of the 32 mode numbers, with TGE 0 and 1. */
+static void run_leaving(const struct leaving *leaving)
+{
+    unsigned returns = 0;
+
+    for (uint32_t mode = 0; mode < 32; mode++) {
+        returns += leaves(leaving, 0, mode);
+        returns += leaves(leaving, 1, mode);
+    }
+    printf("%-13s %u returns as due", leaving->name, returns);
+    tell(returns == 64);
+}
+
+/* No. 9: refused returns; where two numbers apply, the lower. */
+static const struct {
+    const char *name;
+    struct going_back going;
+    uint32_t number;
+} REFUSED_RETURNS[] = {
+    /* 2, before 3 and 4. */
+    { "mode 0x14",    { 0x14,       SCR_NS, 0,       0x10, 0, 0, 0 }, BAD_MODE },
+    { "2 before 3",   { 0x01000014, SCR_NS, 0,       0x10, 0, 0, 0 }, BAD_MODE },
+    { "2 before 4",   { 0x14,       SCR_NS, 0,       0x10, 0, 1, 0 }, BAD_MODE },
+
+    /* 3 of the block, before 4 and 5. */
+    { "CPSR bit 24",  { 0x01000013, SCR_NS, 0,       0x10, 0, 0, 0 }, BAD_STATE },
+    { "EL1, TGE 1",   { 0x13,       SCR_NS, HCR_TGE, 0x10, 0, 0, 0 }, BAD_STATE },
+    { "Hyp, NS 0",    { 0x1A,       0,      0,       0x10, 0, 0, 0 }, BAD_STATE },
+    { "3 before 4",   { 0x00200013, SCR_NS, 0,       0x10, 0, 1, 0 }, BAD_STATE },
+    { "3 before 5",   { 0x00200010, SCR_NS, 0,       0x10, 0, 0, 0 }, BAD_STATE },
+
+    /* 3 of "A saved word with any of bits 24-21 set", legal or not. */
+    { "bit 21",       { 0x13, SCR_NS, 0, 0x00200010, 0, 0, 0 }, BAD_STATE },
+    { "bit 22",       { 0x12, SCR_NS, 0, 0x00400010, 0, 0, 0 }, BAD_STATE },
+    { "bit 23",       { 0x16, 0,      0, 0x00800010, 0, 0, 0 }, BAD_STATE },
+    { "bit 24",       { 0x1A, SCR_NS, 0, 0x01000010, 0, 0, 0 }, BAD_STATE },
+    { "bit 24, 0x14", { 0x17, SCR_NS, 0, 0x01000014, 0, 0, 0 }, BAD_STATE },
+    { "3, and A 1",   { 0x13, SCR_NS, 0, 0x01000010, 0, 1, 0 }, BAD_STATE },
+    { "3, and B 1",   { 0x13, SCR_NS, 0, 0x00200010, 0, 0, 1 }, BAD_STATE },
+    { "Hyp, 3, A 4",  { 0x1A, SCR_NS, 0, 0x00200010, 0, 4, 0 }, BAD_STATE },
+
+    /* 4, before 5; an illegal return is no less refused. */
+    { "A 1",          { 0x13, SCR_NS, 0, 0x10, 0, 1, 0 },          BAD_EVENT },
+    { "A 16",         { 0x13, SCR_NS, 0, 0x10, 0, 16, 0 },         BAD_EVENT },
+    { "B 1",          { 0x13, SCR_NS, 0, 0x10, 0, 4, 1 },          BAD_EVENT },
+    { "B 2^31",       { 0x1A, SCR_NS, 0, 0x10, 0, 0, 0x80000000 }, BAD_EVENT },
+    { "0x14, A 6",    { 0x13, SCR_NS, 0, 0x14, 0, 6, 0 },          BAD_EVENT },
+    { "Hyp, A 2",     { 0x1A, SCR_NS, 0, 0x10, 0, 2, 0 },          BAD_EVENT },
+    { "User, A 1",    { 0x10, SCR_NS, 0, 0,    0, 1, 0 },          BAD_EVENT },
+    { "User, B 1",    { 0x10, 0,      0, 0,    0, 0, 1 },          BAD_EVENT },
+    { "System, A 3",  { 0x1F, SCR_NS, 0, 0,    0, 3, 0 },          BAD_EVENT },
+
+    /* 5: "User and System have none", so that no bits 24-21 of theirs can be set. */
+    { "User",         { 0x10, SCR_NS, 0,       0, 0, 0, 0 }, NOT_HERE },
+    { "User, TGE 1",  { 0x10, SCR_NS, HCR_TGE, 0, 0, 8, 0 }, NOT_HERE },
+    { "Secure User",  { 0x10, 0,      0,       0, 0, 4, 0 }, NOT_HERE },
+    { "System",       { 0x1F, SCR_NS, 0,       0, 0, 0, 0 }, NOT_HERE },
+    { "Secure sys",   { 0x1F, 0,      0,       0, 0, 2, 0 }, NOT_HERE },
+};
+
+static void run_refused_returns(void)
+{
+    for (size_t i = 0; i < sizeof REFUSED_RETURNS / sizeof REFUSED_RETURNS[0]; i++) {
+        printf("%-12s  number %u", REFUSED_RETURNS[i].name, (unsigned)REFUSED_RETURNS[i].number);
+        tell(stays(&REFUSED_RETURNS[i].going, REFUSED_RETURNS[i].number));
+    }
+}
+
+/* No. 9: sizes go before all, also from a mode that is not known: "neither buffer changes". */
+static void run_return_sizes(const char *name, size_t block_len, size_t answer_len)
+{
+    const struct going_back going = { .cpsr = 0x14, .a = 1 };
+    uint8_t before[BLOCK_SIZE], block[BLOCK_SIZE], answer[ANSWER_SIZE];
+    uint32_t number;
+
+    put_returning(before, &going);
+    memcpy(block, before, sizeof block);
+    memset(answer, OLD_BYTE, sizeof answer);
+    number = second_step(block, block_len, CODE_RETURN, going.a, going.b, answer, answer_len);
+    printf("%-12s  number %u", name, (unsigned)number);
+    tell(number == BAD_SIZE && memcmp(block, before, sizeof block) == 0 && are_old(answer, sizeof answer));
+}
+
+/* No. 9: the A that are tried: 0 to 1023, and each single bit above them, 10 to 31. */
+enum {
+    SMALL_A = 1024,
+    TRIED_A = SMALL_A + 22
+};
+
+static uint32_t tried_a(uint32_t i)
+{
+    return i < SMALL_A ? i : (uint32_t)SMALL_A << (i - SMALL_A);
+}
+
+/* No. 9: "From Hyp ... A must be 0.  Elsewhere ... A one of 0, 2, 4, 8": so many A give this number, others BAD_EVENT. */
+static void run_taken_off(const char *name, uint32_t mode, uint32_t number, unsigned due)
+{
+    struct going_back going = { mode, SCR_NS, 0, 0x10, 0x8000, 0, 0 };
+    unsigned taken = 0, others = 0;
+
+    for (uint32_t i = 0; i < TRIED_A; i++) {
+        going.a = tried_a(i);
+        if (number == DONE)
+            taken += goes_back(&going, DONE, 0x10, (0x8000 - going.a) & ~UINT32_C(3));
+        else
+            taken += stays(&going, number);
+        others += stays(&going, BAD_EVENT);
+    }
+    printf("%-12s  %u of %u A", name, taken, (unsigned)TRIED_A);
+    tell(taken == due && taken + others == TRIED_A);
+}
+
+static void run_return_refusals(void)
+{
+    run_return_sizes("block 175", BLOCK_SIZE - 1, ANSWER_SIZE);
+    run_return_sizes("answer 7", BLOCK_SIZE, ANSWER_SIZE - 1);
+    run_refused_returns();
+    run_taken_off("A, svc", MODE_SUPERVISOR, DONE, 4);
+    run_taken_off("A, Monitor", MODE_MONITOR, DONE, 4);
+    run_taken_off("A, Hyp", MODE_HYP, DONE, 1);
+    run_taken_off("A, User", MODE_USER, NOT_HERE, 4);
+    run_taken_off("A, System", MODE_SYSTEM, NOT_HERE, 4);
+}
+
+/* No. 9: "each of codes 1, 2, 5, 6 that enters ..., followed by a return with the manual's subtraction". */
+static const struct trip {
+    const char *name;
+    uint32_t mode, scr, hcr;
+    uint32_t code, a;
+    uint32_t entered;
+    uint32_t less[2];  /* "subtraction of", by T of the saved word */
+    uint32_t ahead[2]; /* of PC: where it comes back to, by T */
+} TRIPS[] = {
+    { "1, Secure",    MODE_USER, 0,      0,       CODE_UNDEFINED,      0, MODE_UNDEFINED,  { 4, 2 }, { 0, 0 } },
+    { "2, Secure",    MODE_USER, 0,      0,       CODE_SVC,            0, MODE_SUPERVISOR, { 0, 0 }, { 4, 2 } },
+    { "5, Secure",    MODE_USER, 0,      0,       CODE_PREFETCH_ABORT, 0, MODE_ABORT,      { 4, 4 }, { 0, 0 } },
+    { "6, Secure",    MODE_USER, 0,      0,       CODE_DATA_ABORT,     0, MODE_ABORT,      { 8, 8 }, { 0, 0 } },
+    { "2, TGE 1",     MODE_USER, 0,      HCR_TGE, CODE_SVC,            0, MODE_SUPERVISOR, { 0, 0 }, { 4, 2 } },
+    { "1, User",      MODE_USER, SCR_NS, 0,       CODE_UNDEFINED,      0, MODE_UNDEFINED,  { 4, 2 }, { 0, 0 } },
+    { "2, User",      MODE_USER, SCR_NS, 0,       CODE_SVC,            0, MODE_SUPERVISOR, { 0, 0 }, { 4, 2 } },
+    { "5, User",      MODE_USER, SCR_NS, 0,       CODE_PREFETCH_ABORT, 0, MODE_ABORT,      { 4, 4 }, { 0, 0 } },
+    { "6, User",      MODE_USER, SCR_NS, 0,       CODE_DATA_ABORT,     0, MODE_ABORT,      { 8, 8 }, { 0, 0 } },
+    { "5, external",  MODE_USER, SCR_NS, 0,       CODE_PREFETCH_ABORT, 1, MODE_ABORT,      { 4, 4 }, { 0, 0 } },
+    { "6, external",  MODE_USER, SCR_NS, 0,       CODE_DATA_ABORT,     1, MODE_ABORT,      { 8, 8 }, { 0, 0 } },
+    { "1, to Hyp",    MODE_USER, SCR_NS, HCR_TGE, CODE_UNDEFINED,      0, MODE_HYP,        { 0, 0 }, { 0, 0 } },
+    { "2, to Hyp",    MODE_USER, SCR_NS, HCR_TGE, CODE_SVC,            0, MODE_HYP,        { 0, 0 }, { 4, 2 } },
+    { "5, to Hyp",    MODE_USER, SCR_NS, HCR_TGE, CODE_PREFETCH_ABORT, 0, MODE_HYP,        { 0, 0 }, { 0, 0 } },
+    { "6, to Hyp",    MODE_USER, SCR_NS, HCR_TGE, CODE_DATA_ABORT,     0, MODE_HYP,        { 0, 0 }, { 0, 0 } },
+    { "5, stage 2",   MODE_USER, SCR_NS, 0,       CODE_PREFETCH_ABORT, 2, MODE_HYP,        { 0, 0 }, { 0, 0 } },
+    { "6, stage 2",   MODE_USER, SCR_NS, 0,       CODE_DATA_ABORT,     2, MODE_HYP,        { 0, 0 }, { 0, 0 } },
+    { "5, FIQ",       MODE_FIQ,        SCR_NS, 0, CODE_PREFETCH_ABORT, 2, MODE_HYP,        { 0, 0 }, { 0, 0 } },
+    { "5, IRQ",       MODE_IRQ,        SCR_NS, 0, CODE_PREFETCH_ABORT, 3, MODE_HYP,        { 0, 0 }, { 0, 0 } },
+    { "5, svc",       MODE_SUPERVISOR, SCR_NS, 0, CODE_PREFETCH_ABORT, 2, MODE_HYP,        { 0, 0 }, { 0, 0 } },
+    { "6, Abort",     MODE_ABORT,      SCR_NS, 0, CODE_DATA_ABORT,     2, MODE_HYP,        { 0, 0 }, { 0, 0 } },
+    { "6, Undefined", MODE_UNDEFINED,  SCR_NS, 0, CODE_DATA_ABORT,     3, MODE_HYP,        { 0, 0 }, { 0, 0 } },
+    { "6, System",    MODE_SYSTEM,     SCR_NS, 0, CODE_DATA_ABORT,     2, MODE_HYP,        { 0, 0 }, { 0, 0 } },
+};
+
+/* No. 9: whether there and back "restores mode and masks", and all of CPSR, with these fields, and this in each SCTLR. */
+static bool comes_back(const struct trip *trip, uint32_t fields, uint32_t sctlr)
+{
+    const uint32_t t = (fields & CPSR_T) != 0, cpsr = fields | trip->mode;
+    uint8_t block[BLOCK_SIZE] = { 0 }, answer[ANSWER_SIZE];
+    bool right;
+
+    put_word(block + 4 * CPSR, cpsr);
+    put_word(block + 4 * PC, 0x8000);
+    put_word(block + 4 * SCR, trip->scr);
+    put_word(block + 4 * HCR, trip->hcr);
+    put_word(block + 4 * SCTLR_S, sctlr);
+    put_word(block + 4 * SCTLR_NS, sctlr);
+    put_word(block + 4 * HSCTLR, sctlr);
+    right = second_step(block, sizeof block, trip->code, trip->a, 0, answer, sizeof answer) == DONE &&
+            (get_word(block + 4 * CPSR) & CPSR_MODE) == trip->entered;
+    right = right && second_step(block, sizeof block, CODE_RETURN, trip->less[t], 0, answer, sizeof answer) == DONE;
+    return right && get_word(block + 4 * CPSR) == cpsr && get_word(block + 4 * PC) == 0x8000 + trip->ahead[t];
+}
+
+/* No. 9: with T, each mask and E 0 and 1, TE and EE 0 and 1, and the flags. */
+static void run_trip(const struct trip *trip)
+{
+    unsigned trips = 0;
+
+    for (uint32_t bits = 0; bits < 32; bits++) {
+        trips += comes_back(trip, bits * CPSR_T, 0);
+        trips += comes_back(trip, bits * CPSR_T | 0xF80F0000, SCTLR_TE | SCTLR_EE);
+    }
+    printf("%-12s  %u there and back", trip->name, trips);
+    tell(trips == 64);
+}
+
+/* No. 9: from Non-secure User, an SVC and its return, behind a refused one; then what User gets, and an unknown code. */
+static const struct pomurica_event THERE_AND_BACK[] = {
+    { CODE_SVC, 0, 0 },
+    { CODE_RETURN, 1, 0 },
+    { CODE_RETURN, 0, 0 },
+    { CODE_RETURN, 0, 0 },
+    { CODES, 0, 0 },
+};
+
+enum {
+    THERE_STEPS = sizeof THERE_AND_BACK / sizeof THERE_AND_BACK[0],
+    THERE_LENGTH = START_LENGTH + THERE_STEPS * STEP_LENGTH + END_LENGTH,
+    THERE_RETURN = START_LENGTH + 2 * STEP_LENGTH /* where the Step of the done return begins */
+};
+
+static const struct pomurica_answer THERE_ANSWERS[THERE_STEPS] = {
+    { DONE, 0x1308 }, { BAD_EVENT, 0 }, { DONE, 0 }, { NOT_HERE, 0 }, { BAD_EVENT, 0 },
+};
+
+/* No. 9: the counts "take it under code 13 and not as an entry"; the SVC is the one there is. */
+static const char THERE_COUNTS[] = "1 0 1\n1 2 1\n1 13 3\n2 0 2\n2 4 2\n2 5 1\n3 19 1\n";
+
+/* No. 9, No. 2: the SVC and its return leave what the entry saved, and PC behind the SVC. */
+static void run_returning_batch(void)
+{
+    struct pomurica_answer answers[THERE_STEPS];
+    uint8_t due[BLOCK_SIZE], block[BLOCK_SIZE];
+    uint32_t number;
+
+    put_first_block(block, MODE_USER);
+    put_first_block(due, MODE_USER);
+    put_word(due + 4 * SPSR_svc, MODE_USER);
+    put_word(due + 4 * LR_svc, 0x8004);
+    put_word(due + 4 * PC, 0x8004);
+    number = second_batch(THERE_AND_BACK, THERE_STEPS, answers, THERE_STEPS, block, sizeof block);
+    printf("%-12s  number %u, PC 0x%X", "batch", (unsigned)number, (unsigned)get_word(block + 4 * PC));
+    tell(number == DONE && memcmp(answers, THERE_ANSWERS, sizeof answers) == 0 && memcmp(block, due, sizeof block) == 0);
+}
+
+/* No. 9, The trace: the list as recorded, with one word of the return's Step another one, is WRONG_STEP there. */
+static void run_wrong_return(const char *name, const uint8_t *recorded, size_t part, uint32_t word)
+{
+    uint8_t trace[THERE_LENGTH];
+
+    memcpy(trace, recorded, sizeof trace);
+    put_word(trace + THERE_RETURN + part, word);
+    run_trace(name, trace, sizeof trace, WRONG_STEP, THERE_RETURN, 2);
+}
+
+/* No. 9, No. 7, No. 6, No. 1: the list recorded, checked at once and as it arrives, and counted. */
+static void run_returning_trace(void)
+{
+    uint8_t block[BLOCK_SIZE], trace[THERE_LENGTH], counts[COUNTS_SIZE] = { 0 };
+    uint32_t number;
+
+    put_first_block(block, MODE_USER);
+    number = second_record(block, sizeof block, THERE_AND_BACK, THERE_STEPS, trace, sizeof trace, 0);
+    printf("%-12s  number %u, %u bytes", "record", (unsigned)number, (unsigned)sizeof trace);
+    tell(number == DONE);
+    run_trace("trace", trace, sizeof trace, DONE, THERE_LENGTH, THERE_STEPS);
+    run_known("session", trace, sizeof trace, sizeof trace, DONE, THERE_LENGTH, THERE_STEPS);
+    run_count("counts", trace, sizeof trace, counts, DONE);
+    run_lines("counts", counts, THERE_COUNTS);
+    run_wrong_return("number 4", trace, STEP_ANSWER, BAD_EVENT);
+    run_wrong_return("value", trace, STEP_VALUE, 0x1000);
+    run_wrong_return("mode stays", trace, STEP_BLOCK + 4 * CPSR, 0x93);
+    run_wrong_return("PC stays", trace, STEP_BLOCK + 4 * PC, 0x10000008);
+    run_wrong_return("SPSR_svc", trace, STEP_BLOCK + 4 * SPSR_svc, 0);
+}
+
+static void run_returns(void)
+{
+    for (size_t i = 0; i < sizeof RETURN_CASES / sizeof RETURN_CASES[0]; i++)
+        run_return(&RETURN_CASES[i]);
+    for (size_t i = 0; i < sizeof LEAVINGS / sizeof LEAVINGS[0]; i++)
+        run_leaving(&LEAVINGS[i]);
+    run_return_refusals();
+    for (size_t i = 0; i < sizeof TRIPS / sizeof TRIPS[0]; i++)
+        run_trip(&TRIPS[i]);
+    run_returning_batch();
+    run_returning_trace();
+}
+
 int main(void)
 {
     for (size_t i = 0; i < CASE_COUNT; i++)
@@ -989,6 +1461,7 @@ int main(void)
     run_sessions();
     run_recordings();
     run_calls();
+    run_returns();
     printf("%u passed, %u failed\n", run - differing, differing);
     return differing == 0 ? 0 : 1;
 }

@@ -1,7 +1,7 @@
 /*
  * The words of document 01: its names for places, modes, events, numbers, bits
- * and the parts of a record, and how a word lies in bytes.  No. 1, No. 6, No. 7
- * and No. 8 are those of document 02.
+ * and the parts of a record, and how a word lies in bytes.  No. 1, No. 6, No. 7,
+ * No. 8 and No. 9 are those of document 02.
  */
 #ifndef WORDS_H
 #define WORDS_H
@@ -79,7 +79,7 @@ enum sctlr_bits {
     SCTLR_TE = 1 << 30
 };
 
-/* Events: the codes. */
+/* Events: the codes; No. 9: "Event 13, exception return". */
 enum code {
     CODE_UNDEFINED = 1,
     CODE_SVC = 2,
@@ -93,7 +93,8 @@ enum code {
     CODE_BANKED_READ = 10,
     CODE_BANKED_WRITE = 11,
     CODE_NOTE = 12,
-    CODES = 13
+    CODE_RETURN = 13,
+    CODES = 14
 };
 
 /* Events: A of an abort. */

@@ -1,7 +1,8 @@
 /*
  * The step of the archive, called from C: document 01's worked cases a to k,
- * calls that the disable bits stop (No. 8), every length of both buffers from 0
- * to 200, and guard bytes around both.
+ * calls that the disable bits stop (No. 8), returns, legal, illegal and refused
+ * (No. 9), and entries that a return takes back, every length of both buffers
+ * from 0 to 200, and guard bytes around both.
  */
 #include "group.h"
 #include "lent.h"
@@ -27,7 +28,11 @@ enum {
     READ = POMURICA_EVENT_BANKED_READ,
     SVC = POMURICA_EVENT_SVC,
     SMC = POMURICA_EVENT_SMC,
-    HVC = POMURICA_EVENT_HVC
+    HVC = POMURICA_EVENT_HVC,
+    UNDEFINED = POMURICA_EVENT_UNDEFINED,
+    PREFETCH_ABORT = POMURICA_EVENT_PREFETCH_ABORT,
+    DATA_ABORT = POMURICA_EVENT_DATA_ABORT,
+    RETURN = POMURICA_EVENT_RETURN
 };
 
 /* The words that decide a worked case; the others are 0 but PC, 0x8000 unless named. */
@@ -132,6 +137,133 @@ static const struct refused_call REFUSED_CALLS[] = {
     { "HVC with A 1", HVC, 1, NS, 0, 0x13, POMURICA_BAD_EVENT },
 };
 
+/* No. 9: where a mode has its saved word and the address of its return; User and System have none. */
+static const struct {
+    uint32_t spsr, link;
+} SAVING[] = {
+    [0x11] = { POMURICA_PLACE_SPSR_FIQ, POMURICA_PLACE_LR_FIQ },
+    [0x12] = { POMURICA_PLACE_SPSR_IRQ, LR_IRQ },
+    [0x13] = { POMURICA_PLACE_SPSR_SVC, LR_SVC },
+    [0x16] = { POMURICA_PLACE_SPSR_MON, LR_MON },
+    [0x17] = { POMURICA_PLACE_SPSR_ABT, LR_ABT },
+    [0x1A] = { POMURICA_PLACE_SPSR_HYP, ELR_HYP },
+    [0x1B] = { POMURICA_PLACE_SPSR_UND, POMURICA_PLACE_LR_UND },
+};
+
+/* No. 9: a done return from a mode, with its saved word and its link, and the two words that it changes. */
+struct done_return {
+    const char *name;
+    uint32_t scr, hcr, mode, saved, link, a, cpsr, pc;
+};
+
+#define IL POMURICA_CPSR_IL
+
+/* Of every field that a saved word has, all bits, but for T and the mode. */
+#define FIELDS 0xFE1FFFC0
+
+static const struct done_return RETURNS[] = {
+    { "from SVC", NS, 0, 0x13, 0x10, 0x8004, 0, 0x10, 0x8004 },
+    { "from SVC, T 1", NS, 0, 0x13, 0x30, 0x8002, 0, 0x30, 0x8002 },
+    { "from Undefined", NS, 0, 0x1B, 0x10, 0x8004, 4, 0x10, 0x8000 },
+    { "from Undefined, T 1", NS, 0, 0x1B, 0x30, 0x8002, 2, 0x30, 0x8000 },
+    { "from Prefetch Abort", 0, 0, 0x17, 0x1F, 0x8004, 4, 0x1F, 0x8000 },
+    { "from Data Abort", 0, 0, 0x17, 0x1F, 0x8008, 8, 0x1F, 0x8000 },
+    { "from IRQ", NS, 0, 0x12, 0x13, 0x8004, 4, 0x13, 0x8000 },
+    { "from FIQ", NS, 0, 0x11, 0x92, 0x8004, 4, 0x92, 0x8000 },
+    { "to the same mode", 0, 0, 0x13, 0x13, 0x8000, 0, 0x13, 0x8000 },
+    { "Secure Supervisor to Monitor", 0, 0, 0x13, 0x16, 0x8000, 0, 0x16, 0x8000 },
+    { "Secure System, with TGE 1", 0, TGE, 0x11, 0x1F, 0x8000, 0, 0x1F, 0x8000 },
+    { "Monitor to Supervisor, NS 0, TGE 1", 0, TGE, 0x16, 0x13, 0x8000, 0, 0x13, 0x8000 },
+    { "Monitor to Supervisor, NS 1", NS, 0, 0x16, 0x13, 0x8000, 0, 0x13, 0x8000 },
+    { "Monitor to Hyp, NS 1", NS, 0, 0x16, 0x1A, 0x8004, 0, 0x1A, 0x8004 },
+    { "Monitor to Hyp, NS 1, TGE 1", NS, TGE, 0x16, 0x1A, 0x8004, 0, 0x1A, 0x8004 },
+    { "Monitor to User, NS 1, TGE 1", NS, TGE, 0x16, 0x10, 0x8000, 0, 0x10, 0x8000 },
+    { "Monitor to Monitor, NS 1, TGE 1", NS, TGE, 0x16, 0x16, 0x8000, 0, 0x16, 0x8000 },
+    { "Hyp to Supervisor", NS, 0, 0x1A, 0x13, 0x8004, 0, 0x13, 0x8004 },
+    { "Hyp to User, TGE 1", NS, TGE, 0x1A, 0x10, 0x8004, 0, 0x10, 0x8004 },
+    { "Hyp to Hyp, TGE 1", NS, TGE, 0x1A, 0x1A, 0x8004, 0, 0x1A, 0x8004 },
+    { "T 0, address 1", NS, 0, 0x13, 0x10, 0x8001, 0, 0x10, 0x8000 },
+    { "T 0, address 2", NS, 0, 0x13, 0x10, 0x8002, 0, 0x10, 0x8000 },
+    { "T 0, address 3", NS, 0, 0x13, 0x10, 0x8003, 0, 0x10, 0x8000 },
+    { "T 1, address 1", NS, 0, 0x13, 0x30, 0x8001, 0, 0x30, 0x8000 },
+    { "T 1, address 3", NS, 0, 0x13, 0x30, 0x8003, 0, 0x30, 0x8002 },
+    { "Hyp, T 1, address 3", NS, 0, 0x1A, 0x30, 0x8003, 0, 0x30, 0x8002 },
+    { "LR 0 less 2", NS, 0, 0x13, 0x30, 0, 2, 0x30, 0xFFFFFFFE },
+    { "LR 3 less 4", NS, 0, 0x1B, 0x10, 3, 4, 0x10, 0xFFFFFFFC },
+    { "LR 7 less 8, T 1", NS, 0, 0x17, 0x30, 7, 8, 0x30, 0xFFFFFFFE },
+    { "every field, T 0", NS, 0, 0x13, FIELDS | 0x10, 0xFFFFFFFF, 0, FIELDS | 0x10, 0xFFFFFFFC },
+    { "every field, T 1", NS, 0, 0x13, FIELDS | 0x30, 0xFFFFFFFF, 0, FIELDS | 0x30, 0xFFFFFFFE },
+
+    { "illegal: 0x15", NS, 0, 0x13, 0x15, 0x8004, 0, IL | 0x13, 0x8004 },
+    { "illegal: 0x1E from Monitor", 0, 0, 0x16, 0x1E, 0x8004, 4, IL | 0x16, 0x8000 },
+    { "illegal: bit 4 clear, 0", NS, 0, 0x13, 0, 0x8004, 0, IL | 0x13, 0x8004 },
+    { "illegal: bit 4 clear, 0x0A from Hyp", NS, 0, 0x1A, 0x0A, 0x8004, 0, IL | 0x1A, 0x8004 },
+    { "illegal: bit 4 clear, 0x03 from Monitor", NS, 0, 0x16, 0x03, 0x8004, 0, IL | 0x16, 0x8004 },
+    { "illegal: NS EL1 to Hyp", NS, 0, 0x13, 0x1A, 0x8004, 0, IL | 0x13, 0x8004 },
+    { "illegal: NS EL1 to Monitor", NS, 0, 0x17, 0x16, 0x8008, 8, IL | 0x17, 0x8000 },
+    { "illegal: Hyp to Monitor", NS, 0, 0x1A, 0x16, 0x8004, 0, IL | 0x1A, 0x8004 },
+    { "illegal: Secure EL1 to Hyp", 0, 0, 0x13, 0x1A, 0x8004, 0, IL | 0x13, 0x8004 },
+    { "illegal: Monitor to Hyp, NS 0", 0, 0, 0x16, 0x1A, 0x8004, 0, IL | 0x16, 0x8004 },
+    { "illegal: Hyp to Supervisor, TGE 1", NS, TGE, 0x1A, 0x13, 0x8004, 0, IL | 0x1A, 0x8004 },
+    { "illegal: Hyp to System, TGE 1", NS, TGE, 0x1A, 0x1F, 0x8004, 0, IL | 0x1A, 0x8004 },
+    { "illegal: Monitor to Supervisor, NS 1, TGE 1", NS, TGE, 0x16, 0x13, 0x8004, 0, IL | 0x16, 0x8004 },
+    { "illegal: Monitor to System, NS 1, TGE 1", NS, TGE, 0x16, 0x1F, 0x8004, 0, IL | 0x16, 0x8004 },
+    { "illegal: IL was 1, T 1, address 3", NS, 0, 0x12, IL | 0x3A, 0x8003, 0, IL | 0x32, 0x8002 },
+    { "illegal: every field but IL", NS, 0, 0x11, (FIELDS & ~IL) | 0x16, 0x8003, 0, FIELDS | 0x11, 0x8000 },
+};
+
+/* No. 9: returns that are refused; BAD_STATE for the saved word goes before BAD_EVENT, and that before NOT_HERE. */
+struct refused_return {
+    const char *name;
+    uint32_t scr, mode, saved, a, b, number;
+};
+
+#define BIT(number) (UINT32_C(1) << (number))
+
+static const struct refused_return REFUSED_RETURNS[] = {
+    { "bit 21", NS, 0x13, BIT(21) | 0x10, 0, 0, POMURICA_BAD_STATE },
+    { "bit 22", NS, 0x12, BIT(22) | 0x10, 4, 0, POMURICA_BAD_STATE },
+    { "bit 23, from Hyp", NS, 0x1A, BIT(23) | 0x10, 0, 0, POMURICA_BAD_STATE },
+    { "bit 24, from Monitor", 0, 0x16, BIT(24) | 0x10, 2, 0, POMURICA_BAD_STATE },
+    { "bits 24-21, no mode", NS, 0x1B, 0xFFFFFFE0, 0, 0, POMURICA_BAD_STATE },
+    { "bit 21, and A 1", NS, 0x13, BIT(21) | 0x10, 1, 0, POMURICA_BAD_STATE },
+    { "bit 24, and B 1", NS, 0x13, BIT(24) | 0x10, 0, 1, POMURICA_BAD_STATE },
+    { "bit 22 from Hyp, and A 4", NS, 0x1A, BIT(22) | 0x10, 4, 0, POMURICA_BAD_STATE },
+    { "B 1", NS, 0x13, 0x10, 0, 1, POMURICA_BAD_EVENT },
+    { "B in its highest bit", NS, 0x13, 0x10, 0, BIT(31), POMURICA_BAD_EVENT },
+    { "B 1, from Hyp", NS, 0x1A, 0x10, 0, 1, POMURICA_BAD_EVENT },
+    { "A 2, from Hyp", NS, 0x1A, 0x10, 2, 0, POMURICA_BAD_EVENT },
+    { "A 4, from Hyp", NS, 0x1A, 0x10, 4, 0, POMURICA_BAD_EVENT },
+    { "A 8, from Hyp", NS, 0x1A, 0x10, 8, 0, POMURICA_BAD_EVENT },
+    { "A 1", NS, 0x13, 0x10, 1, 0, POMURICA_BAD_EVENT },
+    { "A 3", NS, 0x13, 0x10, 3, 0, POMURICA_BAD_EVENT },
+    { "A 5", NS, 0x13, 0x10, 5, 0, POMURICA_BAD_EVENT },
+    { "A 6", NS, 0x13, 0x10, 6, 0, POMURICA_BAD_EVENT },
+    { "A 7", NS, 0x13, 0x10, 7, 0, POMURICA_BAD_EVENT },
+    { "A 9", NS, 0x13, 0x10, 9, 0, POMURICA_BAD_EVENT },
+    { "A 10", NS, 0x13, 0x10, 10, 0, POMURICA_BAD_EVENT },
+    { "A 16", NS, 0x13, 0x10, 16, 0, POMURICA_BAD_EVENT },
+    { "A 32", NS, 0x13, 0x10, 32, 0, POMURICA_BAD_EVENT },
+    { "A 34", NS, 0x13, 0x10, 34, 0, POMURICA_BAD_EVENT },
+    { "A 64 + 8", NS, 0x13, 0x10, 72, 0, POMURICA_BAD_EVENT },
+    { "A 256 + 4", NS, 0x13, 0x10, 260, 0, POMURICA_BAD_EVENT },
+    { "A in its highest bit", NS, 0x13, 0x10, BIT(31), 0, POMURICA_BAD_EVENT },
+    { "A -4", NS, 0x13, 0x10, 0xFFFFFFFC, 0, POMURICA_BAD_EVENT },
+    { "A 1, illegal", NS, 0x13, 0x16, 1, 0, POMURICA_BAD_EVENT },
+    { "A 1, from User", NS, 0x10, 0, 1, 0, POMURICA_BAD_EVENT },
+    { "A 9, from System", NS, 0x1F, 0, 9, 0, POMURICA_BAD_EVENT },
+    { "B 1, from User", 0, 0x10, 0, 0, 1, POMURICA_BAD_EVENT },
+    { "B 1, from System", 0, 0x1F, 0, 8, 1, POMURICA_BAD_EVENT },
+    { "from User", NS, 0x10, 0, 0, 0, POMURICA_NOT_HERE },
+    { "A 2, from User", NS, 0x10, 0, 2, 0, POMURICA_NOT_HERE },
+    { "A 4, from Secure User", 0, 0x10, 0, 4, 0, POMURICA_NOT_HERE },
+    { "A 8, from Secure User", 0, 0x10, 0, 8, 0, POMURICA_NOT_HERE },
+    { "from System", NS, 0x1F, 0, 0, 0, POMURICA_NOT_HERE },
+    { "A 2, from System", NS, 0x1F, 0, 2, 0, POMURICA_NOT_HERE },
+    { "A 4, from Secure System", 0, 0x1F, 0, 4, 0, POMURICA_NOT_HERE },
+    { "A 8, from Secure System", 0, 0x1F, 0, 8, 0, POMURICA_NOT_HERE },
+};
+
 /* Cases i, j and k: a banked read, and the place of the register that a done one shows. */
 struct read_case {
     const char *name;
@@ -174,9 +306,9 @@ static void call_step(struct call *call, const uint8_t *block, size_t block_len,
 
 /* A call with both buffers of their sizes: it answers as it returns and keeps the guards. */
 static void call_whole(struct call *call, const char *name, const uint8_t *block,
-                       uint32_t code, uint32_t a)
+                       uint32_t code, uint32_t a, uint32_t b)
 {
-    call_step(call, block, POMURICA_BLOCK_SIZE, code, a, 0, OLD_ANSWER, POMURICA_ANSWER_SIZE);
+    call_step(call, block, POMURICA_BLOCK_SIZE, code, a, b, OLD_ANSWER, POMURICA_ANSWER_SIZE);
     check(call->guards_kept, "%s: a guard byte changed", name);
     check(pomurica_get_word(bytes_of(&call->answer), 0) == call->number,
           "%s: number written %u, returned %u", name,
@@ -205,7 +337,7 @@ static void run_entry(const struct worked_case *worked)
     struct call call;
 
     put_start(block, &worked->start);
-    call_whole(&call, worked->name, block, worked->code, worked->a);
+    call_whole(&call, worked->name, block, worked->code, worked->a, 0);
     check(call.number == worked->number, "%s: number %u", worked->name, call.number);
     check_value(&call, worked->name, worked->value);
     for (size_t i = 0; i < worked->named_count; i++) {
@@ -240,7 +372,7 @@ static void run_call(uint32_t code, uint32_t scr, bool enabled)
 
     snprintf(name, sizeof name, "code %u, SCR 0x%X", code, scr);
     put_start(block, &start);
-    call_whole(&call, name, block, code, 0);
+    call_whole(&call, name, block, code, 0, 0);
     check(call.number == (enabled ? POMURICA_DONE : POMURICA_DISABLED), "%s: number %u", name, call.number);
     check(is_unchanged(&call.block) != enabled, "%s: the block changed, or did not", name);
 }
@@ -256,13 +388,107 @@ static void run_bits(void)
     }
 }
 
+/* A block that returns from the mode so.  In every other word all bits are set: also in the SPSR of every other mode. */
+static void put_return(uint8_t *block, uint32_t scr, uint32_t hcr, uint32_t mode, uint32_t saved, uint32_t link)
+{
+    memset(block, 0xFF, POMURICA_BLOCK_SIZE);
+    pomurica_put_word(block, SCR, scr);
+    pomurica_put_word(block, HCR, hcr);
+    pomurica_put_word(block, CPSR, mode);
+    if (mode == POMURICA_MODE_USER || mode == POMURICA_MODE_SYSTEM)
+        return;
+    pomurica_put_word(block, SAVING[mode].spsr, saved);
+    pomurica_put_word(block, SAVING[mode].link, link);
+}
+
+/* A done return changes CPSR and PC, and has the value 0. */
+static void run_return(const struct done_return *done)
+{
+    uint8_t block[POMURICA_BLOCK_SIZE];
+    struct call call;
+
+    put_return(block, done->scr, done->hcr, done->mode, done->saved, done->link);
+    call_whole(&call, done->name, block, RETURN, done->a, 0);
+    check(call.number == POMURICA_DONE, "%s: number %u", done->name, call.number);
+    check_value(&call, done->name, 0);
+    pomurica_put_word(block, CPSR, done->cpsr);
+    pomurica_put_word(block, PC, done->pc);
+    check(memcmp(bytes_of(&call.block), block, sizeof block) == 0, "%s: CPSR 0x%X, PC 0x%X, or another word", done->name,
+          pomurica_get_word(bytes_of(&call.block), CPSR), pomurica_get_word(bytes_of(&call.block), PC));
+}
+
+static void run_refused_return(const struct refused_return *refused)
+{
+    uint8_t block[POMURICA_BLOCK_SIZE];
+    struct call call;
+
+    put_return(block, refused->scr, 0, refused->mode, refused->saved, 0x8004);
+    call_whole(&call, refused->name, block, RETURN, refused->a, refused->b);
+    check(call.number == refused->number, "%s: number %u", refused->name, call.number);
+    check_value(&call, refused->name, 0);
+    check(is_unchanged(&call.block), "%s: the block changed", refused->name);
+}
+
+/* No. 9: what code that handles an exception takes off LR to return behind an SVC, and else to what was interrupted. */
+static uint32_t taken_off(uint32_t code, uint32_t target, uint32_t cpsr)
+{
+    if (target == POMURICA_MODE_HYP || code == SVC)
+        return 0;
+    if (code == UNDEFINED)
+        return (cpsr & POMURICA_CPSR_T) != 0 ? 2 : 4;
+    return code == PREFETCH_ABORT ? 4 : 8;
+}
+
+/* An entry and its return: CPSR is as it was, masks and mode among its bits, and so is PC, or it is behind the SVC. */
+static void run_there_and_back(uint32_t scr, uint32_t hcr, uint32_t cpsr, uint32_t code, uint32_t a)
+{
+    const uint32_t behind = code != SVC ? 0 : (cpsr & POMURICA_CPSR_T) != 0 ? 2 : 4;
+    uint8_t block[POMURICA_BLOCK_SIZE] = { 0 };
+    char name[80];
+    struct call entry, back;
+    uint32_t target;
+
+    snprintf(name, sizeof name, "code %u, A %u, CPSR 0x%X, SCR 0x%X, HCR 0x%X", code, a, cpsr, scr, hcr);
+    put_start(block, &(struct start){ .scr = scr, .hcr = hcr, .cpsr = cpsr, .pc = PC_HERE });
+    call_whole(&entry, name, block, code, a, 0);
+    target = pomurica_get_word(bytes_of(&entry.answer), POMURICA_ANSWER_VALUE) >> 8 & POMURICA_CPSR_MODE;
+    call_whole(&back, name, bytes_of(&entry.block), RETURN, taken_off(code, target, cpsr), 0);
+    check(entry.number == POMURICA_DONE && back.number == POMURICA_DONE, "%s: numbers %u, %u", name, entry.number,
+          back.number);
+    check(pomurica_get_word(bytes_of(&back.block), CPSR) == cpsr &&
+              pomurica_get_word(bytes_of(&back.block), PC) == PC_HERE + behind,
+          "%s: back with CPSR 0x%X, PC 0x%X", name, pomurica_get_word(bytes_of(&back.block), CPSR),
+          pomurica_get_word(bytes_of(&back.block), PC));
+}
+
+/* From User to the modes that codes 1, 2, 5 and 6 enter, with TGE to Hyp; and to Hyp by stage 2, from Non-secure EL1 too. */
+static void run_round_trips(void)
+{
+    static const uint32_t CODES[] = { UNDEFINED, SVC, PREFETCH_ABORT, DATA_ABORT };
+
+    for (uint32_t i = 0; i < COUNT(CODES) * BIT(4); i++) {
+        const uint32_t code = CODES[i % COUNT(CODES)];
+        const uint32_t fields = i / COUNT(CODES) * POMURICA_CPSR_T; /* T F I A */
+
+        run_there_and_back(0, 0, fields | POMURICA_MODE_USER, code, 0);
+        run_there_and_back(0, TGE, fields | POMURICA_MODE_USER, code, 0);
+        run_there_and_back(NS, 0, fields | POMURICA_MODE_USER, code, 0);
+        run_there_and_back(NS, TGE, fields | POMURICA_MODE_USER, code, 0);
+        if (code == UNDEFINED || code == SVC)
+            continue;
+        run_there_and_back(NS, 0, fields | POMURICA_MODE_USER, code, POMURICA_ABORT_STAGE_2);
+        run_there_and_back(NS, 0, fields | POMURICA_MODE_SUPERVISOR, code, POMURICA_ABORT_STAGE_2);
+        run_there_and_back(NS, 0, fields | POMURICA_MODE_SYSTEM, code, POMURICA_ABORT_STAGE_2);
+    }
+}
+
 /* On a block whose other words are as given: a read changes no byte and shows its own register. */
 static void run_read(const struct read_case *worked, uint8_t *block)
 {
     struct call call;
 
     put_start(block, &worked->start);
-    call_whole(&call, worked->name, block, READ, worked->a);
+    call_whole(&call, worked->name, block, READ, worked->a, 0);
     check(call.number == worked->number, "%s: number %u", worked->name, call.number);
     check(is_unchanged(&call.block), "%s: the block changed", worked->name);
     check_value(&call, worked->name,
@@ -335,6 +561,14 @@ int main(void)
         run_refused_call(&REFUSED_CALLS[i]);
     group("calls with each bit of SCR alone, and with all but it");
     run_bits();
+    group("returns, legal and illegal");
+    for (size_t i = 0; i < COUNT(RETURNS); i++)
+        run_return(&RETURNS[i]);
+    group("returns that are refused");
+    for (size_t i = 0; i < COUNT(REFUSED_RETURNS); i++)
+        run_refused_return(&REFUSED_RETURNS[i]);
+    group("entries of codes 1, 2, 5 and 6, and back");
+    run_round_trips();
     group("every length of both buffers from 0 to 200");
     run_lengths();
     group("NULL with length 0");

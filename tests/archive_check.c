@@ -1,8 +1,8 @@
 /*
  * The checker of the archive, called from C: document 01's worked case l, a
  * trace cut before each of its bytes, bytes behind it, each byte changed, old
- * traces of calls that are disabled now (No. 8), and every length of the report
- * from 0 to 200.
+ * traces of calls that are disabled now (No. 8) and of returns before there were
+ * any (No. 9), and every length of the report from 0 to 200.
  */
 #include "case_l.h"
 #include "edge.h"
@@ -13,9 +13,9 @@
 #include <stdio.h>
 #include <string.h>
 
-/* A trace of three Steps: an entry, a refusal and a note. */
+/* A trace of four Steps: an entry, a refusal, a note and the return. */
 enum {
-    STEPS = 3,
+    STEPS = 4,
     LENGTH = POMURICA_START_SIZE + STEPS * POMURICA_STEP_SIZE + POMURICA_END_SIZE,
     END_PLACE = LENGTH - POMURICA_END_SIZE,
     ONE_STEP = POMURICA_START_SIZE + POMURICA_STEP_SIZE + POMURICA_END_SIZE
@@ -35,6 +35,7 @@ static const uint32_t EVENTS[STEPS][3] = {
     { POMURICA_EVENT_SVC, 0, 0 },
     { POMURICA_EVENT_HVC, 0, 0 },
     { POMURICA_EVENT_NOTE, POMURICA_PLACE_SP_SVC, 0x12345678 },
+    { POMURICA_EVENT_RETURN, 0, 0 },
 };
 
 static void put_head(uint8_t *record, uint32_t length, uint32_t kind)
@@ -200,6 +201,39 @@ static void run_call(const struct call *call)
     expect(trace, sizeof trace, POMURICA_DONE, sizeof trace, 1);
 }
 
+/* A return from Non-secure Supervisor by a saved word, and the CPSR that it leaves. */
+static const struct {
+    uint32_t saved, cpsr;
+} RETURNS[] = {
+    { POMURICA_MODE_USER, POMURICA_MODE_USER },
+    { POMURICA_CPSR_IL | POMURICA_MODE_IRQ, POMURICA_CPSR_IL | POMURICA_MODE_IRQ },
+    { POMURICA_MODE_HYP, POMURICA_CPSR_IL | POMURICA_MODE_SUPERVISOR },
+    { 0, POMURICA_CPSR_IL | POMURICA_MODE_SUPERVISOR },
+};
+
+/* The return is right as it was done; with another mode after it, with another IL, and refused as unknown, it is wrong. */
+static void run_return(uint32_t saved, uint32_t cpsr)
+{
+    const uint32_t event[1][3] = { { POMURICA_EVENT_RETURN, 4, 0 } };
+    uint8_t trace[ONE_STEP], block[POMURICA_BLOCK_SIZE] = { 0 };
+    uint8_t *const step = trace + POMURICA_START_SIZE;
+
+    pomurica_put_word(block, POMURICA_PLACE_CPSR, POMURICA_MODE_SUPERVISOR);
+    pomurica_put_word(block, POMURICA_PLACE_SCR, POMURICA_SCR_NS);
+    pomurica_put_word(block, POMURICA_PLACE_SPSR_SVC, saved);
+    record(trace, block, event, 1);
+    check(pomurica_get_word(step, STEP_BLOCK + POMURICA_PLACE_CPSR) == cpsr, "saved 0x%X: CPSR 0x%X", saved,
+          pomurica_get_word(step, STEP_BLOCK + POMURICA_PLACE_CPSR));
+    expect(trace, sizeof trace, POMURICA_DONE, sizeof trace, 1);
+    pomurica_put_word(step, STEP_BLOCK + POMURICA_PLACE_CPSR, cpsr ^ POMURICA_MODE_USER ^ POMURICA_MODE_SYSTEM);
+    expect(trace, sizeof trace, POMURICA_WRONG_STEP, POMURICA_START_SIZE, 0);
+    pomurica_put_word(step, STEP_BLOCK + POMURICA_PLACE_CPSR, cpsr ^ POMURICA_CPSR_IL);
+    expect(trace, sizeof trace, POMURICA_WRONG_STEP, POMURICA_START_SIZE, 0);
+    pomurica_put_word(step, ANSWER, POMURICA_BAD_EVENT);
+    memcpy(step + 4 * STEP_BLOCK, trace + 4 * START_BLOCK, POMURICA_BLOCK_SIZE);
+    expect(trace, sizeof trace, POMURICA_WRONG_STEP, POMURICA_START_SIZE, 0);
+}
+
 static void run_report_lengths(const uint8_t *trace)
 {
     for (size_t length = 0; length <= LONGEST_TRIED; length++) {
@@ -238,6 +272,9 @@ int main(void)
     group("calls that are disabled, shown as taken and as refused");
     for (size_t i = 0; i < sizeof CALLS / sizeof CALLS[0]; i++)
         run_call(&CALLS[i]);
+    group("returns, shown as done, as another came of it, and as an unknown event");
+    for (size_t i = 0; i < sizeof RETURNS / sizeof RETURNS[0]; i++)
+        run_return(RETURNS[i].saved, RETURNS[i].cpsr);
     group("every length of the report from 0 to 200");
     run_report_lengths(trace);
     return summary();

@@ -18,6 +18,9 @@
 /* Of four different bytes. */
 #define NEW_WORD 0x12345678
 
+/* The first code that is none. */
+#define UNKNOWN (POMURICA_EVENT_RETURN + 1)
+
 /* HVC enabled, SMC disabled. */
 #define CALLS (POMURICA_SCR_NS | POMURICA_SCR_HCE | POMURICA_SCR_SCD)
 
@@ -29,11 +32,15 @@ static const struct {
     { { POMURICA_EVENT_INTERRUPT_CHECK, POMURICA_LINE_IRQ, 0 }, { POMURICA_DONE, 0x31218 } }, /* enters IRQ mode */
     { { POMURICA_EVENT_INTERRUPT_CHECK, POMURICA_LINE_IRQ, 0 }, { POMURICA_DONE, 0 } },       /* masked by that entry */
     { { POMURICA_EVENT_SVC, 1, 0 }, { POMURICA_BAD_EVENT, 0 } },
-    { { 13, 0, 0 }, { POMURICA_BAD_EVENT, 0 } },
+    { { UNKNOWN, 0, 0 }, { POMURICA_BAD_EVENT, 0 } },
     { { POMURICA_EVENT_NOTE, POMURICA_PLACE_PC, 0x9000 }, { POMURICA_DONE, 0 } },
     { { POMURICA_EVENT_NOTE, POMURICA_PLACE_CPSR, 0 }, { POMURICA_BAD_MODE, 0 } },
     { { POMURICA_EVENT_NOTE, POMURICA_PLACE_HCR, POMURICA_HCR_TGE }, { POMURICA_BAD_STATE, 0 } },
     { { POMURICA_EVENT_SVC, 0, 0 }, { POMURICA_DONE, 0x1308 } },                              /* enters Supervisor */
+    { { POMURICA_EVENT_RETURN, 1, 0 }, { POMURICA_BAD_EVENT, 0 } },
+    { { POMURICA_EVENT_RETURN, 0, 0 }, { POMURICA_DONE, 0 } },                                /* and back behind the SVC */
+    { { POMURICA_EVENT_BANKED_READ, 18, 0 }, { POMURICA_DONE, 0x9004 } },                     /* LR_svc: as that left it */
+    { { POMURICA_EVENT_SVC, 0, 0 }, { POMURICA_DONE, 0x1308 } },                              /* once more */
     { { POMURICA_EVENT_BANKED_WRITE, 17, NEW_WORD }, { POMURICA_DONE, 0 } },                  /* SP_irq */
     { { POMURICA_EVENT_BANKED_READ, 17, 0 }, { POMURICA_DONE, NEW_WORD } },
     { { POMURICA_EVENT_HVC, 0, 0 }, { POMURICA_DISABLED, 0 } },
@@ -52,7 +59,7 @@ static const struct {
 } AFTER[] = {
     { POMURICA_PLACE_LR_IRQ, 0x8004 },
     { POMURICA_PLACE_SP_IRQ, NEW_WORD },
-    { POMURICA_PLACE_LR_SVC, 0x9004 },
+    { POMURICA_PLACE_LR_SVC, 0x9008 },
     { POMURICA_PLACE_ELR_HYP, 0x1000000C },
     { POMURICA_PLACE_SPSR_IRQ, POMURICA_MODE_SUPERVISOR },
     { POMURICA_PLACE_SPSR_SVC, POMURICA_CPSR_A | POMURICA_CPSR_I | POMURICA_MODE_IRQ },

@@ -5,7 +5,7 @@ import re
 import subprocess
 import sys
 
-MOST_LINES = 200
+MOST_LINES = 300
 MOST_TOLD = 10
 results = []
 

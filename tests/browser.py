@@ -27,7 +27,7 @@ results = []
 
 # Traces that have every lane, pale or not, every mark, and every way to end.
 COLOURED = {
-    'few Steps, one wrong': damaged(walk(60, 5), 40),
+    'few Steps, one wrong': damaged(walk(60, 6), 40),
     'many Steps, one wrong': damaged(walk(2001, 1), 1500),
     'a trace that stops': walk(80, 2)[:-1],
     'no mode': walk_without_mode(20),
@@ -51,7 +51,8 @@ LANES = ('monitor', 'hyp', 'guest', 'secure', 'none')
 SHAPES = {
     **{f'a bar of {lane}': (f'path.{lane}:not(.pale)', 3) for lane in LANES},
     **{f'a pale bar of {lane}': (f'path.{lane}.pale', 1.3) for lane in LANES},
-    'a lane': ('path.lane', 1.1), 'an entry': ('path.entry', 3), 'a refusal': ('path.refusal', 3),
+    'a lane': ('path.lane', 1.1), 'an entry': ('path.entry', 3), 'a return': ('path.return', 3),
+    'a refusal': ('path.refusal', 3),
     'the frame of the wrong Step': ('rect.frame', 3), 'a flag': ('path.flag', 3), 'where the trace stops': ('path.stop', 3),
     'the mode at the end': ('rect.end:not(.pale)', 3), 'a pale mode at the end': ('rect.end.pale', 1.3),
 }
@@ -231,6 +232,12 @@ def try_lanes(name, view):
     expect(f'{name}: each lane has its colour', len(set(colours)) == len(LANES), set(colours))
 
 
+def try_marks(name, view):
+    """Entries, returns and refusals have colours of their own, and none has that of the wrong Step's flag."""
+    colours = view.ask('["entry", "return", "refusal", "flag"].map(mark => lookOf(one(`.rows path.${mark}`)).colours)')
+    expect(f'{name}: each mark has its colour', len(set(colours)) == 4, colours)
+
+
 def try_scheme(name, view, scheme, is_forced):
     """The page has the scheme, and so have the parts that the browser draws, as bars to scroll by."""
     seen = view.ask('[getComputedStyle(document.documentElement).colorScheme, '
@@ -256,8 +263,11 @@ def try_colours(browser, room):
             name = f'{kind}, {setting}'
             try_scheme(name, view, scheme, 'forced_colors' in features)
             try_setting(name, view, looked_at)
-            if kind == 'few Steps, one wrong':
-                (try_forms if 'forced_colors' in features else try_lanes)(name, view)
+            if kind == 'few Steps, one wrong' and 'forced_colors' in features:
+                try_forms(name, view)
+            elif kind == 'few Steps, one wrong':
+                try_lanes(name, view)
+                try_marks(name, view)
             if kind == 'many Steps, one wrong':
                 try_shared_bars(name, view)
             if 'media' in features:

@@ -7,6 +7,16 @@ const uint8_t MODES[MODE_COUNT] = {
     MODE_ABORT, MODE_HYP, MODE_UNDEFINED, MODE_SYSTEM
 };
 
+const struct saving SAVINGS[SAVING_COUNT] = {
+    { MODE_FIQ, SPSR_fiq, LR_fiq }, { MODE_IRQ, SPSR_irq, LR_irq }, { MODE_SUPERVISOR, SPSR_svc, LR_svc },
+    { MODE_MONITOR, SPSR_mon, LR_mon }, { MODE_ABORT, SPSR_abt, LR_abt }, { MODE_HYP, SPSR_hyp, ELR_hyp },
+    { MODE_UNDEFINED, SPSR_und, LR_und },
+};
+
+/* What a return may take off LR. */
+static const uint32_t OFF_LR[] = { 0, 2, 4, 8 };
+#define OFF_COUNT (sizeof OFF_LR / sizeof OFF_LR[0])
+
 const uint32_t LARGEST_A[CODES] = {
     [CODE_PREFETCH_ABORT] = 3,
     [CODE_DATA_ABORT] = 3,
@@ -14,6 +24,7 @@ const uint32_t LARGEST_A[CODES] = {
     [CODE_BANKED_READ] = 63,
     [CODE_BANKED_WRITE] = 63,
     [CODE_NOTE] = PLACES - 1,
+    [CODE_RETURN] = 8,
 };
 
 /* SplitMix64. */
@@ -64,6 +75,40 @@ static uint32_t any_cpsr(struct chance *chance, uint32_t mode)
     return (any_word(chance) & ~(uint32_t)(CPSR_24_TO_21 | CPSR_MODE)) | mode;
 }
 
+/* One of bits 24-21. */
+static uint32_t any_of_24_to_21(struct chance *chance)
+{
+    return UINT32_C(1) << (21 + any_below(chance, 4));
+}
+
+/* A saved word: mostly one that a return can go by; the others name no mode, have a bit of 24-21 set, or are any. */
+static uint32_t any_saved(struct chance *chance)
+{
+    const uint32_t saved = any_cpsr(chance, MODES[any_below(chance, MODE_COUNT)]);
+
+    switch (any_below(chance, 16)) {
+    case 0:
+        return any_word(chance);
+    case 1:
+        return saved | any_of_24_to_21(chance);
+    case 2:
+    case 3:
+    case 4:
+        return (saved & ~(uint32_t)CPSR_MODE) | any_below(chance, CPSR_MODE + 1);
+    case 5:
+    case 6:
+    case 7: /* as code without IT blocks leaves it */
+        return saved & ~(uint32_t)CPSR_IT;
+    default:
+        return saved;
+    }
+}
+
+static bool is_saved(uint32_t place)
+{
+    return place >= SPSR_fiq && place <= SPSR_hyp;
+}
+
 static bool is_el1(uint32_t mode)
 {
     return mode != MODE_USER && mode != MODE_MONITOR && mode != MODE_HYP;
@@ -75,7 +120,7 @@ void good_block(struct chance *chance, uint8_t *block)
     uint32_t scr = any_word(chance), hcr = any_word(chance);
 
     for (uint32_t place = 0; place < PLACES; place++)
-        put(block, place, any_word(chance));
+        put(block, place, is_saved(place) ? any_saved(chance) : any_word(chance));
     if (mode == MODE_HYP)
         scr |= SCR_NS;
     if ((scr & SCR_NS) != 0 && is_el1(mode))
@@ -85,6 +130,9 @@ void good_block(struct chance *chance, uint8_t *block)
     put(block, HCR, hcr);
     if (one_in(chance, 16)) /* address sums that wrap */
         put(block, PC, 0u - any_below(chance, 16));
+    for (uint32_t i = 0; i < SAVING_COUNT; i++)
+        if (one_in(chance, 8)) /* and differences */
+            put(block, SAVINGS[i].link, any_below(chance, 8));
 }
 
 /* A good block with one thing wrong. */
@@ -93,7 +141,7 @@ static void almost_good_block(struct chance *chance, uint8_t *block)
     good_block(chance, block);
     switch (any_below(chance, 3)) {
     case 0:
-        put(block, CPSR, get(block, CPSR) | UINT32_C(1) << (21 + any_below(chance, 4)));
+        put(block, CPSR, get(block, CPSR) | any_of_24_to_21(chance));
         break;
     case 1:
         put(block, CPSR, any_cpsr(chance, MODE_HYP));
@@ -127,8 +175,11 @@ static struct event any_note(struct chance *chance, const uint8_t *block)
 {
     struct event note = { CODE_NOTE, any_below(chance, PLACES), any_word(chance) };
 
-    if (one_in(chance, 2))
+    if (one_in(chance, 2)) {
+        if (is_saved(note.a))
+            note.b = any_saved(chance);
         return note;
+    }
     note.a = CPSR + any_below(chance, HCR - CPSR + 1);
     if (one_in(chance, 4))
         return note;
@@ -152,7 +203,7 @@ static struct event spoiling_note(struct chance *chance, const uint8_t *block)
     case 1:
         return (struct event){ CODE_NOTE, HCR, get(block, HCR) ^ HCR_TGE };
     case 2:
-        return (struct event){ CODE_NOTE, CPSR, cpsr ^ UINT32_C(1) << (21 + any_below(chance, 4)) };
+        return (struct event){ CODE_NOTE, CPSR, cpsr ^ any_of_24_to_21(chance) };
     case 3:
         return (struct event){ CODE_NOTE, CPSR, (cpsr & ~(uint32_t)CPSR_MODE) | any_below(chance, CPSR_MODE + 1) };
     default:
@@ -177,10 +228,14 @@ struct event event_of(struct chance *chance, uint32_t code, const uint8_t *block
         break;
     case CODE_BANKED_WRITE:
         event.a = any_below(chance, LARGEST_A[code] + 1);
-        event.b = any_word(chance);
+        event.b = event.a > LARGEST_A[code] / 2 ? any_saved(chance) : any_word(chance); /* with R 1, of an SPSR */
         break;
     case CODE_NOTE:
         return any_note(chance, block);
+    case CODE_RETURN:
+        if ((get(block, CPSR) & CPSR_MODE) != MODE_HYP)
+            event.a = OFF_LR[any_below(chance, OFF_COUNT)];
+        break;
     default:
         break;
     }
@@ -198,6 +253,18 @@ static uint32_t a_near_largest(struct chance *chance, uint32_t code)
     case 2: return largest + 1;
     default: return largest | any_bit(chance);
     }
+}
+
+/* A return with an A of 0 to 9, or a right one with a bit more, and now and then with B. */
+static struct event odd_return(struct chance *chance)
+{
+    struct event event = { CODE_RETURN, any_below(chance, LARGEST_A[CODE_RETURN] + 2), 0 };
+
+    if (one_in(chance, 4))
+        event.a = OFF_LR[any_below(chance, OFF_COUNT)] | any_bit(chance);
+    if (one_in(chance, 4))
+        event.b = any_bit(chance);
+    return event;
 }
 
 /* An event that is mostly none: an unknown code, or an operand just or far out of its range. */
@@ -229,7 +296,13 @@ struct event any_event(struct chance *chance, const uint8_t *block)
         return odd_event(chance, block);
     if (one_in(chance, 8)) /* the event with the most cases */
         return event_of(chance, CODE_INTERRUPT_CHECK, block);
+    if (one_in(chance, 16)) /* and the one that goes by a saved word */
+        return event_of(chance, CODE_RETURN, block);
+    if (one_in(chance, 24)) /* and the two with the most registers */
+        return event_of(chance, CODE_BANKED_READ + any_below(chance, 2), block);
     if (one_in(chance, 32))
         return spoiling_note(chance, block);
-    return event_of(chance, 1 + any_below(chance, CODE_NOTE), block);
+    if (one_in(chance, 64))
+        return odd_return(chance);
+    return event_of(chance, 1 + any_below(chance, CODES - 1), block);
 }

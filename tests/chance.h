@@ -23,7 +23,14 @@ struct event {
 #define MODE_COUNT 9
 extern const uint8_t MODES[MODE_COUNT];
 
-/* The largest A of each of the twelve codes; 0 where the event has none. */
+/* The modes that have an SPSR: its place, and that of the LR, or of ELR_hyp, by which they return. */
+#define SAVING_COUNT 7
+struct saving {
+    uint8_t mode, spsr, link;
+};
+extern const struct saving SAVINGS[SAVING_COUNT];
+
+/* The largest A of each of the thirteen codes; 0 where the event has none. */
 extern const uint32_t LARGEST_A[];
 
 uint32_t any_word(struct chance *chance);
@@ -37,10 +44,10 @@ void good_block(struct chance *chance, uint8_t *block);
 /* A block that is mostly good, sometimes almost, sometimes of any words. */
 void any_block(struct chance *chance, uint8_t *block);
 
-/* An event of the code, with operands in their ranges; the block helps a note to be done. */
+/* An event of the code, with operands in their ranges; the block helps a note or a return to be done. */
 struct event event_of(struct chance *chance, uint32_t code, const uint8_t *block);
 
-/* An event that is mostly one of the twelve with operands in their ranges. */
+/* An event that is mostly one of the thirteen with operands in their ranges. */
 struct event any_event(struct chance *chance, const uint8_t *block);
 
 #endif

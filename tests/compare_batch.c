@@ -91,12 +91,14 @@ static bool is_refused_between(const struct batched *batched)
     return met_so_far == 3;
 }
 
-/* A block that is not good answers the first event so, and whatever follows; a note alone may have such an answer too. */
+/* A block that is not good answers the first event so, and whatever follows; a note or a return may have that answer too. */
 static bool is_not_good(const struct list *list, const struct batched *batched)
 {
     const uint32_t first = list->events_len == 0 ? POMURICA_DONE : answers_of(batched)->number;
 
-    return list->events[0].code != POMURICA_EVENT_NOTE && (first == POMURICA_BAD_MODE || first == POMURICA_BAD_STATE);
+    if (first != POMURICA_BAD_MODE && first != POMURICA_BAD_STATE)
+        return false;
+    return list->events[0].code != POMURICA_EVENT_NOTE && list->events[0].code != POMURICA_EVENT_RETURN;
 }
 
 static void meet_done(const struct list *list, const struct batched *batched)

@@ -44,7 +44,7 @@ enum {
 /* What of each group the rules can bring about, a bit for each number. */
 #define BIT(number) (UINT32_C(1) << (number))
 static const uint32_t REACHED[POMURICA_GROUPS] = {
-    BIT(POMURICA_EVENT_NOTE + 1) - 1,
+    BIT(POMURICA_EVENT_RETURN + 1) - 1,
     ((BIT(POMURICA_NO_RIGHT + 1) - 1) & ~BIT(POMURICA_BAD_SIZE)) | BIT(POMURICA_DISABLED),
     BIT(POMURICA_MODE_FIQ) | BIT(POMURICA_MODE_IRQ) | BIT(POMURICA_MODE_SUPERVISOR) | BIT(POMURICA_MODE_MONITOR) |
         BIT(POMURICA_MODE_ABORT) | BIT(POMURICA_MODE_HYP) | BIT(POMURICA_MODE_UNDEFINED),

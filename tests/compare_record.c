@@ -69,7 +69,7 @@ static const char *const KIND_NAMES[KINDS] = {
 
 enum {
     NUMBERS = POMURICA_NO_ROOM + 1,
-    CODES = POMURICA_EVENT_NOTE + 1 /* 0 is for any that is unknown */
+    CODES = POMURICA_EVENT_RETURN + 1 /* 0 is for any that is unknown */
 };
 
 /* How often each kind and number of a recording was met; and of its Steps, by number, and by code: refused and done. */
@@ -140,13 +140,15 @@ static void meet_steps(const struct recording *asked, const struct recorded *rec
     met.kind[REFUSED_BETWEEN] += met_so_far == 3;
 }
 
-/* A block that is not good answers the first event so; a note alone may have such an answer too. */
+/* A block that is not good answers the first event so; a note or a return may have such an answer too. */
 static bool is_not_good(const struct recording *asked, const struct recorded *recorded)
 {
     const uint32_t first =
         asked->events_len == 0 ? POMURICA_DONE : pomurica_get_word(step_at(asked, recorded, 0), POMURICA_STEP_NUMBER);
 
-    return (first == POMURICA_BAD_MODE || first == POMURICA_BAD_STATE) && asked->events[0].code != POMURICA_EVENT_NOTE;
+    if (first != POMURICA_BAD_MODE && first != POMURICA_BAD_STATE)
+        return false;
+    return asked->events[0].code != POMURICA_EVENT_NOTE && asked->events[0].code != POMURICA_EVENT_RETURN;
 }
 
 static void meet_done(const struct recording *asked, const struct recorded *recorded)

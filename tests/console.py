@@ -197,6 +197,46 @@ def try_disabled():
     expect_page('the page of it', page_of('not-here'), hvc, smc, steps=5, wrong=['1'])
 
 
+# What is told of the returns of samples, behind their states: the reasons of the illegal ones, and of refusals.
+RETURNS = {
+    'svc-and-return': 3 * ['returns to Non-secure User at 0x00008004'],
+    'illegal-returns': [f'illegal return ({why}): stays in {state}, IL becomes 1, goes on at 0x{address:08X}'
+                        for why, state, address in [
+                            ('mode 0x14 is none', 'Non-secure Supervisor', 0x9000),
+                            ('Hyp is above Exception level 1', 'Non-secure Supervisor', 0x9000),
+                            ('Monitor is above Exception level 2', 'Non-secure Hyp', 0x9004),
+                            ('Non-secure Supervisor with TGE 1', 'Non-secure Hyp', 0x9004),
+                            ('Hyp with NS 0', 'Monitor with NS 0', 0x9008)]],
+    'refused-returns': ['refused with 3 BAD_STATE (bits 24-21 of the saved word are not 0)', 'refused with 4 BAD_EVENT',
+                        'refused with 4 BAD_EVENT', 'refused with 5 NOT_HERE'],
+    'honest': [],
+}
+
+
+def try_returns():
+    """What comes of a return, in lines and on the page, where it has a mark of its own; and what is due for a wrong one."""
+    for name, due in RETURNS.items():
+        sample = os.path.join(SAMPLES, f'{name}.trace')
+        lines = run('--trace', sample)[1].decode().splitlines()
+        told = [line.rpartition('; ')[2] for line in lines if ': exception return' in line]
+        expect(f'--trace {name}: {len(due)} returns', told == due, told)
+        marked, drawn = run('--html', sample)[1].count(b'<span class="return">'), page_of(sample).marks['return']
+        done = sum(not words.startswith('refused') for words in due)
+        expect(f'--html {name}: {done} are marked as returns', (marked, drawn) == (done, done), (marked, drawn))
+    honest = read(os.path.join(SAMPLES, 'svc-and-return.trace'))
+    answer, block = START_SIZE + STEP_SIZE + STEP_NUMBER, START_SIZE + STEP_SIZE + STEP_SIZE - BLOCK_SIZE
+    former = honest[:answer] + struct.pack('<II', 4, 0) + honest[block - STEP_SIZE:block - STEP_SIZE + BLOCK_SIZE] + \
+        honest[block + BLOCK_SIZE:]
+    expect_run('shown as refused, as before No. 9', ['--explain', write('former', former)], 1,
+               b'former: refused 11 WRONG_STEP at byte 384 after 1 Steps\n'
+               b'  Step 2 at byte 384: exception return\n  it was in Non-secure Supervisor, masked I\n'
+               b'  the rules give: returns to Non-secure User at 0x00008004\n'
+               b'    answer number 0x00000000 due, 0x00000004 found\n'
+               b'    CPSR 0x00000010 due, 0x00000093 found: I set, due clear; mode Supervisor, due User\n'
+               b'    PC 0x00008004 due, 0x10000008 found\n')
+    expect_page('the page of it', page_of('former'), 'the rules give: returns to Non-secure User', steps=6, wrong=['2'])
+
+
 def try_readme():
     """What the README shows of verdicts, literally."""
     write('console', ('#!/bin/sh\nexec ' + ' '.join(f"'{word}'" for word in COMMAND) + ' "$@"\n').encode())
@@ -217,8 +257,10 @@ def compare_telling(page, lines):
     listed = list(page.told_steps())
     first = int(page.steps[0][1][0]) - 1 if page.steps else 0
     told, differences = lines[first:first + len(listed)], [line for line in lines if line.startswith('    ')]
-    marks = {'entry': sum(': enters' in line or '; enters' in line for line in told if not line.endswith('WRONG')),
-             'refusal': sum('; refused' in line for line in told if not line.endswith('WRONG'))}
+    right = [line for line in told if not line.endswith('WRONG')]
+    marks = {'entry': sum(': enters' in line or '; enters' in line for line in right),
+             'return': sum('; returns' in line or '; illegal return' in line for line in right),
+             'refusal': sum('; refused' in line for line in right)}
     if listed != told or list(page.told_differences()) != differences:
         page.fault(('Steps', listed, told, differences))
     warnings = [line.strip() for line in lines if line.startswith('  warning: ')]
@@ -270,7 +312,7 @@ def try_pages():
 def limit_steps():
     """Steps of every code and of none, with operands, answer numbers and values at their limits and right behind them."""
     for code, a, (number, value) in itertools.product(
-            range(14), (3, 4, 31, 32, 43, 44, 63, 64), ((0, 6 << 16), (0, 7 << 16), (14, 0), (15, 0), (16, 0), (17, 0))):
+            range(15), (2, 3, 4, 8, 9, 31, 32, 43, 44, 63, 64), ((0, 6 << 16), (0, 7 << 16), (14, 0), (15, 0), (16, 0), (17, 0))):
         yield struct.pack('<HHIIIII', STEP_SIZE, STEP_KIND, code, a, 0, number, value) + bytes(BLOCK_SIZE)
 
 
@@ -370,6 +412,7 @@ with tempfile.TemporaryDirectory() as room:
     try_flips()
     try_pages()
     try_disabled()
+    try_returns()
     try_readme()
     try_unjudged()
     try_long_pages()

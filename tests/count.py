@@ -32,7 +32,7 @@ run, expect, expect_run = runs.run, runs.expect, runs.expect_run
 os.environ['ASAN_OPTIONS'] = 'detect_leaks=0'  # looking takes some 4 s a run on Arm; try_leaks does
 os.environ['LC_ALL'] = 'C'
 
-INTERRUPT_CHECK, LAST_CODE, LAST_ENTERING = 9, 12, 8
+INTERRUPT_CHECK, LAST_CODE, LAST_ENTERING = 9, 13, 8
 MOST = 2**32 - 1
 HONEST, REFUSED_EVENT, STALE = (os.path.join(SAMPLES, f'{name}.trace') for name in ('honest', 'refused-event', 'stale-spsr'))
 STALE_LINE = f'{STALE}: refused 11 WRONG_STEP at byte 1384 after 6 Steps\n'.encode()

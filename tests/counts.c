@@ -42,7 +42,7 @@ static const struct event EVENTS[] = {
     { POMURICA_EVENT_SVC, 1, 0 },                                        /* BAD_EVENT, of a known code, twice */
     { POMURICA_EVENT_INTERRUPT_CHECK, 32, 0 },
     { 0, 0, 0 },                                                         /* BAD_EVENT, of no code, four times */
-    { 13, 0, 0 },
+    { POMURICA_EVENT_RETURN + 1, 0, 0 },
     { 0xFFFFFFFF, 0, 0 },
     { UINT32_C(1) << 31 | POMURICA_EVENT_SVC, 0, 0 },
     { POMURICA_EVENT_HYP_TRAP, 0, 0 },                                   /* NOT_HERE */
@@ -70,6 +70,10 @@ static const struct event EVENTS[] = {
     { POMURICA_EVENT_INTERRUPT_CHECK, POMURICA_LINE_VIRTUAL_IRQ, 0 },    /* virtual IRQ */
     { POMURICA_EVENT_BANKED_WRITE, 19, 0x31A18 },                        /* SP_svc, with what an entry's value may be */
     { POMURICA_EVENT_BANKED_READ, 19, 0 },
+    { POMURICA_EVENT_RETURN, 4, 0 },                                     /* back to Supervisor, and no entry to it */
+    { POMURICA_EVENT_NOTE, POMURICA_PLACE_SPSR_SVC, POMURICA_MODE_HYP },
+    { POMURICA_EVENT_RETURN, 0, 0 },                                     /* illegal, and done */
+    { POMURICA_EVENT_RETURN, 5, 0 },                                     /* BAD_EVENT, of a known code */
 };
 
 /* What they come to. */
@@ -88,11 +92,12 @@ static const struct class {
     { POMURICA_GROUP_CODE, POMURICA_EVENT_INTERRUPT_CHECK, 9 },
     { POMURICA_GROUP_CODE, POMURICA_EVENT_BANKED_READ, 3 },
     { POMURICA_GROUP_CODE, POMURICA_EVENT_BANKED_WRITE, 1 },
-    { POMURICA_GROUP_CODE, POMURICA_EVENT_NOTE, 12 },
-    { POMURICA_GROUP_ANSWER, POMURICA_DONE, 27 },
+    { POMURICA_GROUP_CODE, POMURICA_EVENT_NOTE, 13 },
+    { POMURICA_GROUP_CODE, POMURICA_EVENT_RETURN, 3 },
+    { POMURICA_GROUP_ANSWER, POMURICA_DONE, 30 },
     { POMURICA_GROUP_ANSWER, POMURICA_BAD_MODE, 1 },
     { POMURICA_GROUP_ANSWER, POMURICA_BAD_STATE, 1 },
-    { POMURICA_GROUP_ANSWER, POMURICA_BAD_EVENT, 6 },
+    { POMURICA_GROUP_ANSWER, POMURICA_BAD_EVENT, 7 },
     { POMURICA_GROUP_ANSWER, POMURICA_NOT_HERE, 1 },
     { POMURICA_GROUP_ANSWER, POMURICA_NO_REGISTER, 1 },
     { POMURICA_GROUP_ANSWER, POMURICA_NO_RIGHT, 1 },

@@ -9,7 +9,7 @@ import re
 import sys
 
 sys.dont_write_bytecode = True
-from records import START_BLOCK, START_SIZE  # noqa: E402
+from records import START_BLOCK, START_SIZE, STEP_BLOCK  # noqa: E402
 from runs import Runs, read  # noqa: E402
 
 SAMPLES = os.path.abspath(sys.argv[1])
@@ -33,6 +33,9 @@ MISUSED = [
     (['stale', '1'], 'stale takes STEP PLACE'),
     (['stale', '1', 'SPSR'], "no place 'SPSR' in the block"),
     (['stale', '1', 'S'], "no place 'S' in the block"),
+    (['copy', '1', 'CPSR'], 'copy takes STEP PLACE TO'),
+    (['copy', '10', 'CPSR', 'PC'], 'no Step 10: the trace has 9'),
+    (['copy', '1', 'CPSR', 'SPSR'], "no place 'SPSR' in the block"),
     (['flip', '1', 'CPSR', '32'], 'no bit 32 in a word'),
     (['flip-all', 'SCR'], 'flip-all takes PLACE BIT'),
     (['flip-all', 'SCR', '-1'], 'no bit -1 in a word'),
@@ -83,6 +86,10 @@ def try_kinds():
     first = damage('flip-all', 'R8_usr', '0')[1]
     expect('and of its first word, in the Start too', first[START_BLOCK] == HONEST[START_BLOCK] ^ 1 and
            sum(one != other for one, other in zip(first, HONEST)) == 10)
+    pc, mvbar = START_SIZE + STEP_BLOCK + 4 * 34, START_SIZE + STEP_BLOCK + 4 * 43
+    copied = HONEST[:mvbar] + HONEST[pc:pc + 4] + HONEST[mvbar + 4:]
+    expect('a word that is copied', damage('copy', '1', 'PC', 'MVBAR') == (0, copied, b'') and copied != HONEST)
+    expect('and one to where it is', damage('copy', '1', 'PC', 'PC') == (0, HONEST, b''))
     expect('a sum wraps', damage('add', '1', 'R8_usr', '0x100000000') == (0, HONEST, b''))
     expect('a cut of nothing, and of everything', (damage('cut', '0')[1], damage('cut', '1992')[1]) == (b'', HONEST))
 

@@ -8,8 +8,9 @@
 #include <inttypes.h>
 #include <limits.h>
 #include <stdio.h>
+#include <string.h>
 
-/* How often each thing is met in a million steps, at least; and each cell where a table has hundreds. */
+/* How often each thing is met in a million steps, at least; and each cell where a table has many. */
 #define SELDOM 250
 #define SELDOM_OF_MANY 20
 
@@ -35,14 +36,43 @@ static void show_heads(const char *what, const char *const *columns, size_t coun
 }
 
 /* Prints a row of counts, then checks that none is too small. */
-static void show_row(const char *name, const char *const *columns, const unsigned long *times, size_t count)
+static void show_row_of(unsigned long least, const char *name, const char *const *columns, const unsigned long *times,
+                        size_t count)
 {
     printf("  %-12s", name);
     for (size_t i = 0; i < count; i++)
         times[i] == NO_CELL ? printf(" %11s", "") : printf(" %11lu", times[i]);
     printf("\n");
     for (size_t i = 0; i < count; i++)
-        check(times[i] >= seldom, "%s, %s: met %lu times, fewer than %lu", name, columns[i], times[i], seldom);
+        check(times[i] >= least, "%s, %s: met %lu times, fewer than %lu", name, columns[i], times[i], least);
+}
+
+static void show_row(const char *name, const char *const *columns, const unsigned long *times, size_t count)
+{
+    show_row_of(seldom, name, columns, times, count);
+}
+
+/* A table of what things came to: how its ends are named, a letter for each, and how often each cell is met at least. */
+struct ends {
+    const char *const *columns;
+    size_t count;
+    const char *letters;
+    unsigned long least;
+};
+
+/* Prints a row, given as the times of all ends, cell by cell; then checks that each cell ended as due, and often enough. */
+static void show_ends(const struct ends *table, const char *name, const char *due, const unsigned long *times)
+{
+    const size_t ends = strlen(table->letters);
+
+    printf("  %-12s", name);
+    for (size_t i = 0; i < table->count; i++)
+        printf(" %9lu %c", times[i * ends + (size_t)(strchr(table->letters, due[i]) - table->letters)], due[i]);
+    printf("\n");
+    for (size_t i = 0; i < table->count; i++)
+        for (size_t end = 0; end < ends; end++)
+            check(due[i] == table->letters[end] ? times[i * ends + end] >= table->least : times[i * ends + end] == 0,
+                  "%s, %s: %c %lu times", name, table->columns[i], table->letters[end], times[i * ends + end]);
 }
 
 #define COUNT(columns) (sizeof(columns) / sizeof((columns)[0]))
@@ -102,26 +132,6 @@ static void show_ways(void)
         show(WAY[way], met.way[way]);
 }
 
-/* Prints a row of calls, then checks that each ended as it has to, and often enough; due has a letter for each column. */
-static void show_calls_from(const char *name, const char *const *columns, const char *due,
-                            const unsigned long (*times)[CALL_ENDS])
-{
-    static const char LETTERS[CALL_ENDS] = {
-        [CALL_NOT_HERE] = 'n', [CALL_TAKEN] = 't', [CALL_TRAPPED] = 'h', [CALL_DISABLED] = 'd',
-    };
-
-    printf("  %-12s", name);
-    for (uint32_t bits = 0; bits < CALL_BITS; bits++)
-        for (uint32_t end = 0; end < CALL_ENDS; end++)
-            if (due[bits] == LETTERS[end])
-                printf(" %9lu %c", times[bits][end], due[bits]);
-    printf("\n");
-    for (uint32_t bits = 0; bits < CALL_BITS; bits++)
-        for (uint32_t end = 0; end < CALL_ENDS; end++)
-            check(due[bits] == LETTERS[end] ? times[bits][end] >= seldom : times[bits][end] == 0,
-                  "%s, %s: %c %lu times", name, columns[bits], LETTERS[end], times[bits][end]);
-}
-
 /* By the bits of which each is 1 (enum call_bits). */
 static void show_calls(void)
 {
@@ -132,13 +142,146 @@ static void show_calls(void)
         { "nnnnnnnn", "ttddttdd", "ttddttdd", "ttddhhhh", "ttddttdd" },
         { "nnnnnnnn", "nnnnnnnn", "nnnnnnnn", "dtdtdtdt", "dtdtdtdt" },
     };
+    const struct ends table = { COLUMNS, CALL_BITS, "nthd", seldom }; /* as enum call_end */
 
     printf("\n  calls by SCR.HCE, SCR.SCD and HCR.TSC: n NOT_HERE, t taken, h trapped to Hyp, d DISABLED");
     for (uint32_t kind = 0; kind < CALL_KINDS; kind++) {
         show_heads(KINDS[kind], COLUMNS, CALL_BITS);
         for (uint32_t caller = 0; caller < CALLERS; caller++)
-            show_calls_from(NAMES[caller], COLUMNS, DUE[kind][caller], met.call[kind][caller]);
+            show_ends(&table, NAMES[caller], DUE[kind][caller], met.call[kind][caller][0]);
     }
+}
+
+/* The mode of a saved word: one of the nine, reserved with bit 4 set, or any with bit 4 clear. */
+enum {
+    RESERVED = MODE_COUNT, BIT_4_CLEAR,
+    SAVED_MODES
+};
+static const char *const SAVED_MODE[SAVED_MODES] = {
+    "0x10", "0x11", "0x12", "0x13", "0x16", "0x17", "0x1A", "0x1B", "0x1F", "reserved", "bit 4 clear",
+};
+
+static uint32_t column_of(uint32_t mode)
+{
+    for (uint32_t i = 0; i < MODE_COUNT; i++)
+        if (MODES[i] == mode)
+            return i;
+    return mode < MODE_USER ? BIT_4_CLEAR : RESERVED;
+}
+
+/* By the manual's list of illegal returns, in the order of SAVED_MODE. */
+static const char *due_of_return(uint32_t mode, uint32_t ns, uint32_t tge)
+{
+    if (ns == 0) /* at EL3; Hyp is not there, and TGE plays no part */
+        return "llllllillii";
+    if (mode == MODE_MONITOR)
+        return tge == 0 ? "lllllllllii" : "liiililiiii";
+    if (mode == MODE_HYP)
+        return tge == 0 ? "llllillllii" : "liiiiiliiii";
+    return "llllilillii";
+}
+
+/* From Hyp there is NS 1 alone, from Non-secure EL1 TGE 0 alone. */
+static bool is_of_good_block(uint32_t mode, uint32_t ns, uint32_t tge)
+{
+    if (mode == MODE_HYP)
+        return ns == 1;
+    return mode == MODE_MONITOR || ns == 0 || tge == 0;
+}
+
+static void show_returns_from(uint32_t mode, uint32_t ns, uint32_t tge)
+{
+    const struct ends table = { SAVED_MODE, SAVED_MODES, "li", seldom_of_many }; /* as enum return_end */
+    unsigned long times[SAVED_MODES][RETURN_ENDS] = { { 0 } };
+    char name[32];
+
+    if (!is_of_good_block(mode, ns, tge))
+        return;
+    for (uint32_t saved = 0; saved < MODE_NUMBERS; saved++)
+        for (uint32_t end = 0; end < RETURN_ENDS; end++)
+            times[column_of(saved)][end] += met.returns.to[mode][ns][tge][saved][end];
+    snprintf(name, sizeof name, "0x%" PRIX32 ", %" PRIu32 ", %" PRIu32, mode, ns, tge);
+    show_ends(&table, name, due_of_return(mode, ns, tge), times[0]);
+}
+
+/* Each number that is none of the nine modes, from wherever. */
+static void check_reserved(void)
+{
+    for (uint32_t saved = 0; saved < MODE_NUMBERS; saved++) {
+        unsigned long times = 0;
+
+        for (uint32_t mode = 0; mode < MODE_NUMBERS; mode++)
+            for (uint32_t i = 0; i < 4; i++)
+                times += met.returns.to[mode][i / 2][i % 2][saved][ILLEGAL];
+        check(column_of(saved) < MODE_COUNT || times >= seldom_of_many, "return to 0x%02" PRIX32 ": met %lu times", saved,
+              times);
+    }
+}
+
+/* From every mode that has an SPSR, with NS and TGE as they can be, to every mode and to none. */
+static void show_returns(void)
+{
+    printf("\n  returns from a mode, with NS and TGE, by the saved mode: l legal, i illegal");
+    show_heads("from", SAVED_MODE, SAVED_MODES);
+    for (uint32_t i = 0; i < SAVING_COUNT; i++)
+        for (uint32_t ns = 0; ns <= 1; ns++)
+            for (uint32_t tge = 0; tge <= 1; tge++)
+                show_returns_from(SAVINGS[i].mode, ns, tge);
+    check_reserved();
+}
+
+/* What they leave: IL and IT of the saved word, and the address, by T. */
+static void show_returned(void)
+{
+    static const char *const ENDS[RETURN_ENDS] = { "legal", "illegal" };
+    static const char *const FIELDS[] = { "IL 0, IT 0", "IL 0, IT", "IL 1, IT 0", "IL 1, IT" };
+    static const char *const ADDRESSES[] = {
+        "T 0, ..00", "T 0, ..01", "T 0, ..10", "T 0, ..11", "T 1, ..00", "T 1, ..01", "T 1, ..10", "T 1, ..11",
+    };
+    static const char *const WRAPPED[] = { "A 2", "A 4", "A 8" };
+    const unsigned long wrapped[] = { met.returns.wrapped[2], met.returns.wrapped[4], met.returns.wrapped[8] };
+
+    show_heads("return", FIELDS, COUNT(FIELDS));
+    for (uint32_t end = 0; end < RETURN_ENDS; end++)
+        show_row(ENDS[end], FIELDS, met.returns.fields[end][0], COUNT(FIELDS));
+    show_heads("address", ADDRESSES, COUNT(ADDRESSES));
+    for (uint32_t end = 0; end < RETURN_ENDS; end++)
+        show_row(ENDS[end], ADDRESSES, met.returns.address[end][0], COUNT(ADDRESSES));
+    show_heads("", WRAPPED, COUNT(WRAPPED));
+    show_row("LR below A", WRAPPED, wrapped, COUNT(WRAPPED));
+}
+
+/* What the operands alone come to, from each mode; User and System have no SPSR. */
+static const char *due_of_operands(uint32_t mode)
+{
+    if (mode == MODE_USER || mode == MODE_SYSTEM)
+        return "neneneeeneee";
+    return mode == MODE_HYP ? "reeeeeeeeeee" : "rerereeereee";
+}
+
+static void show_return_operands(void)
+{
+    static const char *const COLUMNS[RETURN_OPERANDS] = {
+        "A 0", "A 1", "A 2", "A 3", "A 4", "A 5", "A 6", "A 7", "A 8", "A 9", "A above", "B not 0",
+    };
+    const struct ends table = { COLUMNS, RETURN_OPERANDS, "ren", seldom_of_many }; /* as enum operand_end */
+
+    printf("\n  returns by their operands: r done, e BAD_EVENT, n NOT_HERE");
+    show_heads("from", COLUMNS, RETURN_OPERANDS);
+    for (uint32_t i = 0; i < MODE_COUNT; i++)
+        show_ends(&table, mode_name(MODES[i]), due_of_operands(MODES[i]), met.returns.operand[MODES[i]][0]);
+}
+
+/* A saved word that has one of bits 24-21, and nothing goes before it. */
+static void show_bad_saved(void)
+{
+    static const char *const COLUMNS[SAVED_BITS] = { "bit 21", "bit 22", "bit 23", "bit 24" };
+
+    show_heads("SPSR of", COLUMNS, SAVED_BITS);
+    for (uint32_t i = 0; i < SAVING_COUNT; i++)
+        show_row_of(seldom_of_many, mode_name(SAVINGS[i].mode), COLUMNS, met.returns.bit[SAVINGS[i].mode], SAVED_BITS);
+    show("such an SPSR, and A is wrong", met.returns.before[WRONG_A]);
+    show("such an SPSR, and B is wrong", met.returns.before[WRONG_B]);
 }
 
 /* Of Hyp and Monitor there is no V, and an entry to Hyp clears no NS. */
@@ -274,6 +417,10 @@ void show_met(unsigned long millions)
     show_taken();
     show_ways();
     show_calls();
+    show_returns();
+    show_returned();
+    show_return_operands();
+    show_bad_saved();
     show_targets();
     show_notes();
     show_operands();

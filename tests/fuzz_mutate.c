@@ -49,7 +49,8 @@ static size_t smaller(size_t one, size_t other)
 
 /* Words at which something ends or begins: operands, places, cells, parts of a value, counts. */
 static const uint32_t LIMITS[] = {
-    0, 1, 3, 4, 12, 13, 31, 32, 43, 44, 63, 64, 0x60000, 0x70000, POMURICA_MOST_STEPS, POMURICA_MOST_STEPS + 1, UINT32_MAX,
+    0, 1, 2, 3, 4, 8, 9, 13, 14, 31, 32, 43, 44, 63, 64, 0x60000, 0x70000,
+    POMURICA_MOST_STEPS, POMURICA_MOST_STEPS + 1, UINT32_MAX,
 };
 
 /* A word that is near the one that was, at a limit, or any. */

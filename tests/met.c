@@ -211,6 +211,71 @@ static void count_note(const struct question *question, const struct steering *b
             met.spoilt[word][fault] += note->a == PLACE[word] && faults_of(&after) == 1u << fault;
 }
 
+/* Of a mode that has an SPSR; NULL for another. */
+static const struct saving *saving_of(uint32_t mode)
+{
+    for (uint32_t i = 0; i < SAVING_COUNT; i++)
+        if (SAVINGS[i].mode == mode)
+            return &SAVINGS[i];
+    return NULL;
+}
+
+/* A done return: of a legal one CPSR is the saved word; an illegal one keeps a mode that is another than the saved one. */
+static void count_returned(const struct steering *before, uint32_t saved, uint32_t link, uint32_t a, const uint8_t *after)
+{
+    const enum return_end end = get_word(after + 4 * CPSR) == saved ? LEGAL : ILLEGAL;
+    const bool tge = (before->hcr & HCR_TGE) != 0, t = (saved & CPSR_T) != 0;
+
+    met.returns.to[before->mode][before->scr & SCR_NS][tge][saved & CPSR_MODE][end]++;
+    met.returns.fields[end][(saved & CPSR_IL) != 0][(saved & CPSR_IT) != 0]++;
+    met.returns.address[end][t][(link - a) % 4]++;
+    met.returns.wrapped[a] += link < a;
+}
+
+/* From Hyp 0; elsewhere 0, 2, 4 or 8. */
+static bool is_right_a(uint32_t mode, uint32_t a)
+{
+    return a == 0 || (mode != MODE_HYP && (a == 2 || a == 4 || a == 8));
+}
+
+/* A return that is refused for its saved word, whatever its operands are. */
+static void count_bad_saved(const struct event *event, uint32_t mode, uint32_t saved)
+{
+    for (uint32_t bit = 0; bit < SAVED_BITS; bit++)
+        met.returns.bit[mode][bit] += (saved & CPSR_24_TO_21) == UINT32_C(1) << (FIRST_SAVED_BIT + bit);
+    met.returns.before[WRONG_A] += event->b == 0 && !is_right_a(mode, event->a);
+    met.returns.before[WRONG_B] += event->b != 0 && is_right_a(mode, event->a);
+}
+
+/* A return whose saved word is not at fault, or that has none. */
+static void count_return_operand(const struct event *event, uint32_t mode, uint32_t number)
+{
+    static const uint32_t NUMBERS[OPERAND_ENDS] = { DONE, BAD_EVENT, NOT_HERE };
+    uint32_t operand = event->a < LARGER_A ? event->a : LARGER_A;
+
+    if (event->b != 0 && !is_right_a(mode, event->a))
+        return;
+    if (event->b != 0)
+        operand = WITH_B;
+    for (uint32_t end = 0; end < OPERAND_ENDS; end++)
+        met.returns.operand[mode][operand][end] += number == NUMBERS[end];
+}
+
+/* A return on a good block. */
+static void count_return(const struct question *question, const struct steering *before, const struct call *call)
+{
+    const struct event *event = &question->event;
+    const struct saving *saving = saving_of(before->mode);
+    const uint32_t saved = saving == NULL ? 0 : get_word(question->block + 4 * saving->spsr);
+
+    if ((saved & CPSR_24_TO_21) == 0)
+        count_return_operand(event, before->mode, call->number);
+    else if (call->number == BAD_STATE)
+        count_bad_saved(event, before->mode, saved);
+    if (call->number == DONE)
+        count_returned(before, saved, get_word(question->block + 4 * saving->link), event->a, bytes_of(&call->block));
+}
+
 static void count_access(const struct event *event, const struct steering *before, uint32_t number)
 {
     const enum right right = number == DONE ? ALLOWED : number == NO_RIGHT ? DENIED : EMPTY;
@@ -232,6 +297,8 @@ void count_step(const struct question *question, const struct call *call)
     before = steering_of(question->block);
     if (event->code == CODE_NOTE && (number == BAD_MODE || number == BAD_STATE))
         count_note(question, &before);
+    if (event->code == CODE_RETURN && faults_of(&before) == 0)
+        count_return(question, &before, call);
     if (number == DONE || number >= BAD_EVENT)
         count_operands(event);
     if (number == DONE || number >= NOT_HERE) {

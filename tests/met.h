@@ -1,8 +1,8 @@
 /*
  * What a comparison of steps met, and how often: numbers, entries and the ways
- * to them, calls by the bits that decide them, operands at the ends of their
- * ranges, notes refused for the block they would make, and every right to a
- * banked register.
+ * to them, calls by the bits that decide them, returns, legal and illegal, by
+ * what decides them, operands at the ends of their ranges, notes refused for the
+ * block they would make, and every right to a banked register.
  */
 #ifndef MET_H
 #define MET_H
@@ -47,6 +47,41 @@ enum call_end {
     CALL_ENDS
 };
 
+/* A done return; and what its operands alone come to: A of 0 to 9, each, any that is larger, and a right A with a B. */
+enum return_end {
+    LEGAL, ILLEGAL,
+    RETURN_ENDS
+};
+enum {
+    LARGER_A = 10, WITH_B,
+    RETURN_OPERANDS
+};
+enum operand_end {
+    OPERAND_DONE, OPERAND_BAD_EVENT, OPERAND_NOT_HERE,
+    OPERAND_ENDS
+};
+
+/* The bits that a saved word may not have, 24-21; and what they go before where that is wrong too. */
+enum {
+    FIRST_SAVED_BIT = 21,
+    SAVED_BITS = 4
+};
+enum wrong_operand {
+    WRONG_A, WRONG_B,
+    WRONG_OPERANDS
+};
+
+/* Returns on good blocks. */
+struct returns_met {
+    unsigned long to[MODE_NUMBERS][2][2][MODE_NUMBERS][RETURN_ENDS]; /* by mode, NS, TGE, and the mode of the saved word */
+    unsigned long fields[RETURN_ENDS][2][2];  /* by IL of the saved word, and whether it has IT bits */
+    unsigned long address[RETURN_ENDS][2][4]; /* by T, and the lowest two bits of the address */
+    unsigned long wrapped[LARGER_A];          /* by A: less than that was in LR */
+    unsigned long operand[MODE_NUMBERS][RETURN_OPERANDS][OPERAND_ENDS]; /* by mode; the saved word is not at fault */
+    unsigned long bit[MODE_NUMBERS][SAVED_BITS]; /* BAD_STATE: the saved word has this bit alone of the four */
+    unsigned long before[WRONG_OPERANDS];        /* BAD_STATE: this operand is wrong too */
+};
+
 /* The words by which a note can spoil a block, and what is then wrong with it. */
 enum steering_word {
     BY_CPSR, BY_SCR, BY_HCR,
@@ -78,6 +113,7 @@ struct met {
     unsigned long which[WHICH_COUNT];
     unsigned long way[WAYS + 1];
     unsigned long call[CALL_KINDS][CALLERS][CALL_BITS][CALL_ENDS];
+    struct returns_met returns;
     unsigned long nothing_taken;
     unsigned long row[ROWS]; /* an exception is pending, its mask bit is 1, the row decides */
     unsigned long by_tge_alone[ROWS]; /* the same, M being 1 by TGE and not by its own bit */

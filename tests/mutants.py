@@ -6,8 +6,10 @@ import sys
 import tempfile
 
 SCRIPT = os.path.abspath(sys.argv[1])
-# B 1 allowed for each of codes 1 to 10; a mask not set, a refusal gone, a condition turned round, a label gone; a wrong count.
+# B 1 allowed for each of codes 1 to 10 and 13; a mask not set, a refusal gone, a condition turned round, a label gone; a wrong
+# count.
 # Of a disabled call: the refusal gone, the trap forgotten, SMC by the bit of HVC, HVC by the bit of SMC.
+# Of a return: each row of the list of illegal ones gone, IL forgotten, an odd address, A from Hyp, a saved word not looked at.
 # Of the batch: an answer too many, more events than answers, an event left out.
 # Of the counts: a code too few, refused Steps counted as done, a sum that just fits, room that just does.
 # Of a session: the most Steps refused, a byte too many held, a head judged too often, a block kept, a feeding after closing.
@@ -15,7 +17,7 @@ SCRIPT = os.path.abspath(sys.argv[1])
 KILLED = [
     *(f'LARGEST: [CODE_{code}] = {{ {a}, [[0 => 1]] }},' for code, a in [
         ('UNDEFINED', 0), ('SVC', 0), ('SMC', 0), ('HVC', 0), ('PREFETCH_ABORT', 3), ('DATA_ABORT', 3), ('HYP_TRAP', 0),
-        ('MONITOR_TRAP', 0), ('INTERRUPT_CHECK', 31), ('BANKED_READ', 63)]),
+        ('MONITOR_TRAP', 0), ('INTERRUPT_CHECK', 31), ('BANKED_READ', 63), ('RETURN', 8)]),
     'masks_of_hyp: [[masks |= CPSR_F => ]];',
     'refusal_of: [[return NO_RIGHT => ]];',
     'offset_of: if ([[target == MODE_HYP && mode_of(block) != MODE_HYP && exception != IRQ && exception != FIQ => not]])',
@@ -25,11 +27,19 @@ KILLED = [
     'is_disabled: return !is_smc_trapped(block) [[&& => ||]] is_one(block, SCR, SCR_SCD);',
     'is_disabled: return !is_smc_trapped(block) && is_one(block, SCR, [[SCR_SCD => SCR_HCE]]);',
     'is_disabled: return !is_one(block, SCR, [[SCR_HCE => SCR_SCD]]);',
+    'is_illegal: if (is_reserved_mode(mode)) [[return true => ]];',
+    'is_illegal: if (is_higher_level(block, mode)) [[return true => ]];',
+    'is_illegal: if (is_hyp_with_ns_0(block, mode)) [[return true => ]];',
+    'is_in(mode, EL1_MODES) && is_one(block, SCR, SCR_NS) && is_one(block, HCR, [[HCR_TGE => HCR_FMO]]);',
+    'cpsr_of_return: return with(saved, CPSR_MODE, false) | mode_of(block) [[| => &]] CPSR_IL;',
+    'pc_of_return: return with(address_of_return(block, a), t ? [[1 => 0]] : 3, false);',
+    'is_taken_off: [[return a == 0 => ]];',
+    'refusal_of: [[return BAD_STATE => ]];',
     'judge: if (n [[> => >=]] MOST_STEPS) {',
     'second_batch: for (size_t i = 0; i [[< => <=]] events_len; i++)',
     'second_batch: if (events_len [[!= => <]] answers_len || block_len != BLOCK_SIZE)',
     'second_batch: for (size_t i = [[0 => 1]]; i < events_len; i++)',
-    'known_code: return code <= [[CODE_NOTE => CODE_BANKED_WRITE]] ? code : 0;',
+    'known_code: return code < [[CODES => CODE_RETURN]] ? code : 0;',
     'count_step: [[return => ]];',
     'would_pass: if (more->word[i] [[> => >=]] UINT32_MAX - before->word[i])',
     'second_count_lines: if (lines_len [[< => <=]] text.length)',

@@ -60,7 +60,7 @@ class Page(html.parser.HTMLParser):
         self.title, self.verdict, self.style, self.policy = '', '', '', ''
         self.header, self.warnings = '', []  # the style of the verdict, and what else is to be heeded
         self.pieces = []  # of the text
-        self.marks = {'entry': 0, 'refusal': 0}
+        self.marks = {'entry': 0, 'return': 0, 'refusal': 0}
         self.pictures, self.target = [], None  # of each its parts: element, attributes and text; where #wrong is, by picture
         self.bars, self.columns = [[]], []  # of each picture: where bars begin and end, with their styles; of each Step
         self.steps = []  # of each: its style, the texts of its line, and its rows of words

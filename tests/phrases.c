@@ -1,8 +1,8 @@
 /*
  * The words that host/phrases.c and host/status.c have, held against the step:
  * the register that each A of a banked access names is the one that the step
- * reads and writes, an event is said to be bad where the step refuses it, and a
- * call to be disabled where the step says so.
+ * reads and writes, an event is said to be bad where the step refuses it, a call
+ * to be disabled where the step says so, and a return to go on where it does.
  */
 #define _POSIX_C_SOURCE 200809L
 
@@ -85,31 +85,57 @@ static void try_cell(uint32_t a)
           banked_name(a) == NULL ? "no register" : banked_name(a));
 }
 
-/* What is said of an event; NULL where there is no memory.  The caller frees it. */
-static char *said_of(uint32_t code, uint32_t a, uint32_t b)
+/* A Step behind the block before it, as both lie in a trace. */
+struct in_trace {
+    uint8_t bytes[POMURICA_BLOCK_SIZE + POMURICA_STEP_SIZE];
+};
+
+static const uint8_t *step_in(const struct in_trace *step)
 {
-    uint8_t step[POMURICA_STEP_SIZE] = { 0 };
+    return step->bytes + POMURICA_BLOCK_SIZE;
+}
+
+/* A Step of an event from a mode and state. */
+static struct in_trace step_of(struct pomurica_event event, uint32_t mode, uint32_t scr, uint32_t hcr)
+{
+    struct in_trace step = { { 0 } };
+    uint8_t *const words = step.bytes + POMURICA_BLOCK_SIZE;
+
+    fill_block(step.bytes, mode, scr);
+    pomurica_put_word(step.bytes, POMURICA_PLACE_HCR, hcr);
+    pomurica_put_word(words, POMURICA_STEP_CODE, event.code);
+    pomurica_put_word(words, POMURICA_STEP_A, event.a);
+    pomurica_put_word(words, POMURICA_STEP_B, event.b);
+    return step;
+}
+
+/* What is said of an event from a mode; NULL where there is no memory.  The caller frees it. */
+static char *said_from(uint32_t mode, struct pomurica_event event)
+{
+    const struct in_trace step = step_of(event, mode, POMURICA_SCR_NS, 0);
     char *said = NULL;
     size_t length = 0;
     FILE *const out = open_memstream(&said, &length);
 
     if (!check(out != NULL, "no memory"))
         return NULL;
-    pomurica_put_word(step, POMURICA_STEP_CODE, code);
-    pomurica_put_word(step, POMURICA_STEP_A, a);
-    pomurica_put_word(step, POMURICA_STEP_B, b);
-    tell_event(out, step);
+    tell_event(out, step_in(&step));
     fclose(out);
     return said;
 }
 
-static void expect_said(uint32_t code, uint32_t a, uint32_t b, const char *due)
+static void expect_said_from(uint32_t mode, struct pomurica_event event, const char *due)
 {
-    char *const said = said_of(code, a, b);
+    char *const said = said_from(mode, event);
 
     if (said != NULL)
         check(strcmp(said, due) == 0, "said: %s", said);
     free(said);
+}
+
+static void expect_said(uint32_t code, uint32_t a, uint32_t b, const char *due)
+{
+    expect_said_from(POMURICA_MODE_SUPERVISOR, (struct pomurica_event){ code, a, b }, due);
 }
 
 static void try_sentences(void)
@@ -127,6 +153,9 @@ static void try_sentences(void)
     expect_said(POMURICA_EVENT_BANKED_WRITE, 5, 7, "banked write of 0x00000007 to SP_usr");
     expect_said(POMURICA_EVENT_BANKED_WRITE, 63, 7, "banked write of 0x00000007 to no register (R 1 SYSm 0x1F)");
     expect_said(POMURICA_EVENT_NOTE, POMURICA_PLACE_MVBAR, 7, "note: MVBAR becomes 0x00000007");
+    expect_said(POMURICA_EVENT_RETURN, 0, 0, "exception return");
+    expect_said(POMURICA_EVENT_RETURN, 2, 0, "exception return, LR less 2");
+    expect_said(POMURICA_EVENT_RETURN, 8, 0, "exception return, LR less 8");
 }
 
 static void try_bad_operands(void)
@@ -146,35 +175,41 @@ static void try_bad_operands(void)
     expect_said(POMURICA_EVENT_BANKED_READ, 18, 9, "banked read of LR_svc, B 9, which must be 0");
     expect_said(POMURICA_EVENT_BANKED_WRITE, 0xFFFFFFFF, 7, "banked write of 0x00000007, A 4294967295, above 63");
     expect_said(POMURICA_EVENT_NOTE, POMURICA_PLACES, 7, "note of 0x00000007, A 44, above 43");
+    expect_said(POMURICA_EVENT_RETURN, 3, 0, "exception return, A 3, which must be 0, 2, 4 or 8");
+    expect_said(POMURICA_EVENT_RETURN, 16, 9, "exception return, A 16, which must be 0, 2, 4 or 8, B 9, which must be 0");
+    expect_said(POMURICA_EVENT_RETURN, 4, 9, "exception return, LR less 4, B 9, which must be 0");
+    expect_said_from(POMURICA_MODE_HYP, (struct pomurica_event){ POMURICA_EVENT_RETURN, 4, 0 },
+                     "exception return, A 4, which must be 0 from Hyp");
     expect_said(0, 1, 2, "event of code 0, which is none");
-    expect_said(13, 0, 0, "event of code 13, which is none");
+    expect_said(POMURICA_EVENT_RETURN + 1, 0, 0, "event of code 14, which is none");
 }
 
-/* Whether the words say that an event is bad, and whether the step, from a good block, does. */
-static void try_event(uint32_t code, uint32_t a, uint32_t b)
+/* Whether the words say that an event is bad, and whether the step, from a good block of the mode, does. */
+static void try_event(uint32_t mode, struct pomurica_event event)
 {
     uint8_t block[POMURICA_BLOCK_SIZE], answer[POMURICA_ANSWER_SIZE];
-    char *const said = said_of(code, a, b);
+    char *const said = said_from(mode, event);
     bool bad;
 
     if (said == NULL)
         return;
-    fill_block(block, POMURICA_MODE_SUPERVISOR, 0);
-    bad = pomurica_step(block, sizeof block, code, a, b, answer, sizeof answer) == POMURICA_BAD_EVENT;
+    fill_block(block, mode, POMURICA_SCR_NS);
+    bad = pomurica_step(block, sizeof block, event.code, event.a, event.b, answer, sizeof answer) == POMURICA_BAD_EVENT;
     check(bad == (strstr(said, "must be 0") || strstr(said, "above") || strstr(said, "which is none")),
-          "code %u, A %u, B %u: %s", (unsigned)code, (unsigned)a, (unsigned)b, said);
+          "mode %x, code %u, A %u, B %u: %s", (unsigned)mode, (unsigned)event.code, (unsigned)event.a, (unsigned)event.b,
+          said);
     free(said);
 }
 
-static void try_events(void)
+static void try_events(uint32_t mode)
 {
-    static const uint32_t WORDS[] = { 0, 1, 2, 3, 4, 7, 31, 32, 33, 43, 44, 63, 64, 256, 0x80000000, 0xFFFFFFFF };
+    static const uint32_t WORDS[] = { 0, 1, 2, 3, 4, 6, 7, 8, 9, 31, 32, 33, 43, 44, 63, 64, 256, 0x80000000, 0xFFFFFFFF };
 
-    for (uint32_t code = 0; code <= POMURICA_EVENT_NOTE + 2; code++)
+    for (uint32_t code = 0; code <= POMURICA_EVENT_RETURN + 2; code++)
         for (size_t i = 0; i < COUNT_OF(WORDS); i++)
             for (size_t j = 0; j < COUNT_OF(WORDS); j++)
-                try_event(code, WORDS[i], WORDS[j]);
-    try_event(0x80000001, 0, 0);
+                try_event(mode, (struct pomurica_event){ code, WORDS[i], WORDS[j] });
+    try_event(mode, (struct pomurica_event){ 0x80000001, 0, 0 });
 }
 
 static void expect_fields(uint32_t found, uint32_t due, const char *expected)
@@ -215,19 +250,9 @@ static void try_status_words(void)
               register_name(place));
 }
 
-/* A Step behind the block before it, as both lie in a trace. */
-struct in_trace {
-    uint8_t bytes[POMURICA_BLOCK_SIZE + POMURICA_STEP_SIZE];
-};
-
 static struct in_trace step_after(uint32_t code, uint32_t mode, uint32_t scr, uint32_t hcr)
 {
-    struct in_trace step = { { 0 } };
-
-    fill_block(step.bytes, mode, scr);
-    pomurica_put_word(step.bytes, POMURICA_PLACE_HCR, hcr);
-    pomurica_put_word(step.bytes + POMURICA_BLOCK_SIZE, POMURICA_STEP_CODE, code);
-    return step;
+    return step_of((struct pomurica_event){ code, 0, 0 }, mode, scr, hcr);
 }
 
 static void expect_outcome(const struct in_trace *step, uint32_t number, uint32_t value, const char *due)
@@ -238,7 +263,7 @@ static void expect_outcome(const struct in_trace *step, uint32_t number, uint32_
 
     if (!check(out != NULL, "no memory"))
         return;
-    tell_outcome(out, step->bytes + POMURICA_BLOCK_SIZE, number, value);
+    tell_outcome(out, step_in(step), number, value);
     fclose(out);
     check(strcmp(said, due) == 0, "said: %s; due: %s", said, due);
     free(said);
@@ -302,6 +327,153 @@ static void try_calls(void)
     check(disabled[POMURICA_EVENT_HVC] == (6 + 1) * 4, "HVC is disabled %u times", disabled[POMURICA_EVENT_HVC]);
 }
 
+/* The modes that return, each with the places of its saved word and of its address. */
+static const struct returning {
+    uint32_t mode, saved, link;
+} RETURNING[] = {
+    { POMURICA_MODE_FIQ, POMURICA_PLACE_SPSR_FIQ, POMURICA_PLACE_LR_FIQ },
+    { POMURICA_MODE_IRQ, POMURICA_PLACE_SPSR_IRQ, POMURICA_PLACE_LR_IRQ },
+    { POMURICA_MODE_SUPERVISOR, POMURICA_PLACE_SPSR_SVC, POMURICA_PLACE_LR_SVC },
+    { POMURICA_MODE_ABORT, POMURICA_PLACE_SPSR_ABT, POMURICA_PLACE_LR_ABT },
+    { POMURICA_MODE_UNDEFINED, POMURICA_PLACE_SPSR_UND, POMURICA_PLACE_LR_UND },
+    { POMURICA_MODE_MONITOR, POMURICA_PLACE_SPSR_MON, POMURICA_PLACE_LR_MON },
+    { POMURICA_MODE_HYP, POMURICA_PLACE_SPSR_HYP, POMURICA_PLACE_ELR_HYP },
+};
+
+/* The reasons for which a return is illegal, in the order of the manual's list. */
+enum reason { LEGAL, NO_MODE, HIGHER_LEVEL, HYP_WITH_NS_0, EL1_WITH_TGE_1, REASONS };
+
+static int level_of(uint32_t mode, bool ns)
+{
+    switch (mode) {
+    case POMURICA_MODE_USER: return 0;
+    case POMURICA_MODE_HYP: return 2;
+    case POMURICA_MODE_MONITOR: return 3;
+    default: return ns ? 1 : 3;
+    }
+}
+
+static enum reason reason_of(uint32_t from, uint32_t to, bool ns, bool tge)
+{
+    if (mode_name(to) == NULL)
+        return NO_MODE;
+    if (level_of(to, ns) > level_of(from, ns))
+        return HIGHER_LEVEL;
+    if (to == POMURICA_MODE_HYP && !ns)
+        return HYP_WITH_NS_0;
+    return level_of(to, ns) == 1 && tge ? EL1_WITH_TGE_1 : LEGAL;
+}
+
+/* What has to be said: a mode with its state, and why a return to a mode is illegal. */
+enum { SAID_SIZE = 200 };
+
+static void name_state(char *said, uint32_t mode, bool ns)
+{
+    if (mode == POMURICA_MODE_MONITOR)
+        snprintf(said, SAID_SIZE, "Monitor with NS %d", ns);
+    else
+        snprintf(said, SAID_SIZE, "%s %s", ns ? "Non-secure" : "Secure", mode_name(mode));
+}
+
+static void name_reason(char *said, enum reason reason, uint32_t from, uint32_t to, bool ns)
+{
+    switch (reason) {
+    case NO_MODE: snprintf(said, SAID_SIZE, "mode 0x%02X is none", (unsigned)to); break;
+    case HIGHER_LEVEL:
+        snprintf(said, SAID_SIZE, "%s is above Exception level %d", mode_name(to), level_of(from, ns));
+        break;
+    case HYP_WITH_NS_0: snprintf(said, SAID_SIZE, "Hyp with NS 0"); break;
+    case EL1_WITH_TGE_1: snprintf(said, SAID_SIZE, "Non-secure %s with TGE 1", mode_name(to)); break;
+    default: break;
+    }
+}
+
+/* The bits that a return goes by, in every combination, and those that refuse it. */
+enum { RETURN_NS = 1, RETURN_TGE = 2, RETURN_T = 4, BAD_SAVED_WORD = 8, BAD_CPSR = 16, RETURN_COMBINATIONS = 32 };
+
+/* A return that takes 0 off from Hyp, and 2 elsewhere, with a saved word of this mode. */
+static struct in_trace return_of(const struct returning *from, uint32_t to, unsigned set)
+{
+    const uint32_t a = from->mode == POMURICA_MODE_HYP ? 0 : 2;
+    struct in_trace step = step_of((struct pomurica_event){ POMURICA_EVENT_RETURN, a, 0 }, from->mode,
+                                   set & RETURN_NS ? POMURICA_SCR_NS : 0, set & RETURN_TGE ? POMURICA_HCR_TGE : 0);
+
+    pomurica_put_word(step.bytes, from->saved, to | (set & RETURN_T ? POMURICA_CPSR_T : 0) |
+                                                   (set & BAD_SAVED_WORD ? UINT32_C(1) << 24 : 0));
+    if (set & BAD_CPSR)
+        pomurica_put_word(step.bytes, POMURICA_PLACE_CPSR, from->mode | UINT32_C(1) << 21);
+    return step;
+}
+
+/* What has to be said of a return that is done, by the reading of the rules that stands here. */
+static void name_return(char *said, const struct in_trace *step, const struct returning *from, uint32_t to, unsigned set)
+{
+    const bool ns = set & RETURN_NS;
+    const enum reason reason = reason_of(from->mode, to, ns, set & RETURN_TGE);
+    const uint32_t taken_off = pomurica_get_word(step_in(step), POMURICA_STEP_A);
+    const uint32_t address = (pomurica_get_word(step->bytes, from->link) - taken_off) & ~(set & RETURN_T ? 1u : 3u);
+    char state[SAID_SIZE], why[SAID_SIZE];
+
+    name_state(state, reason == LEGAL ? to : from->mode, ns);
+    name_reason(why, reason, from->mode, to, ns);
+    if (reason == LEGAL)
+        snprintf(said, 3 * SAID_SIZE, "returns to %s at 0x%08X", state, (unsigned)address);
+    else
+        snprintf(said, 3 * SAID_SIZE, "illegal return (%s): stays in %s, IL becomes 1, goes on at 0x%08X", why, state,
+                 (unsigned)address);
+}
+
+/* Whether a block is good, as the step finds it: to one that is not it answers 2 or 3 whatever the event. */
+static bool is_good(const uint8_t *bytes)
+{
+    uint8_t block[POMURICA_BLOCK_SIZE], answer[POMURICA_ANSWER_SIZE];
+
+    memcpy(block, bytes, sizeof block);
+    return pomurica_step(block, sizeof block, 0, 0, 0, answer, sizeof answer) == POMURICA_BAD_EVENT;
+}
+
+/* One return: what the step makes of it is told.  Counts it by the reason for which it is illegal, if it is done. */
+static void try_return(const struct returning *from, uint32_t to, unsigned set, unsigned *counts)
+{
+    const struct in_trace step = return_of(from, to, set);
+    const bool ns = set & RETURN_NS, tge = set & RETURN_TGE;
+    struct due due;
+    char said[3 * SAID_SIZE];
+    uint32_t number;
+
+    find_due(step_in(&step), &due);
+    number = pomurica_get_word(due.answer, POMURICA_ANSWER_NUMBER);
+    if (number == POMURICA_DONE) {
+        name_return(said, &step, from, to, set);
+        counts[reason_of(from->mode, to, ns, tge)]++;
+    } else {
+        snprintf(said, sizeof said, "refused with 3 BAD_STATE%s",
+                 is_good(step.bytes) ? " (bits 24-21 of the saved word are not 0)" : "");
+    }
+    expect_outcome(&step, number, 0, said);
+}
+
+/* Returns from every mode that has a saved word, to every number of a mode, with every combination of the bits. */
+static void try_returns(void)
+{
+    unsigned counts[REASONS] = { 0 };
+
+    for (size_t i = 0; i < COUNT_OF(RETURNING); i++)
+        for (uint32_t to = 0; to <= POMURICA_CPSR_MODE; to++)
+            for (unsigned set = 0; set < RETURN_COMBINATIONS; set++)
+                try_return(RETURNING + i, to, set, counts);
+    /*
+     * Each twice, with T 0 and 1.  Good are FIQ, IRQ, Supervisor, Abort and Undefined in three states of NS and TGE, Monitor
+     * in four and Hyp in two: from each to 23 numbers of no mode.  Above the five with NS 1 are Hyp and Monitor, above Hyp
+     * Monitor; NS is 0 in two states of the five and of Monitor; with TGE 1 Hyp and Monitor with NS 1 return to six modes.
+     */
+    check(counts[NO_MODE] == 2 * 23 * (5 * 3 + 4 + 2), "%u returns to no mode", counts[NO_MODE]);
+    check(counts[HIGHER_LEVEL] == 2 * (5 * 2 + 2), "%u returns to a higher level", counts[HIGHER_LEVEL]);
+    check(counts[HYP_WITH_NS_0] == 2 * (5 * 2 + 2), "%u returns to Hyp with NS 0", counts[HYP_WITH_NS_0]);
+    check(counts[EL1_WITH_TGE_1] == 2 * (6 + 6), "%u returns to Non-secure EL1 with TGE 1", counts[EL1_WITH_TGE_1]);
+    check(counts[LEGAL] == 2 * 9 * (5 * 3 + 4 + 2) - 2 * 3 * 12, "%u legal returns", counts[LEGAL]);
+}
+
 /* A Step that nobody judged may show 16 where no bit disables a call: then there is no reason to tell. */
 static void try_unjudged(void)
 {
@@ -315,6 +487,28 @@ static void try_unjudged(void)
     expect_outcome(&svc, POMURICA_DISABLED, 0, NO_REASON);
 }
 
+/* It may show a return done that the rules refuse, and one refused, or another event, for a saved word without fault. */
+static void try_unjudged_returns(void)
+{
+    const struct returning *const hyp = RETURNING + COUNT_OF(RETURNING) - 1;
+    const struct in_trace from_user = step_after(POMURICA_EVENT_RETURN, POMURICA_MODE_USER, POMURICA_SCR_NS, 0);
+    const struct in_trace from_no_mode = step_after(POMURICA_EVENT_RETURN, 0, POMURICA_SCR_NS, 0);
+    const struct in_trace right = return_of(hyp, POMURICA_MODE_USER, RETURN_NS);
+    const struct in_trace bad_saved_word = return_of(hyp, POMURICA_MODE_USER, RETURN_NS | BAD_SAVED_WORD);
+    struct in_trace bad_a = right, svc = bad_saved_word;
+
+    pomurica_put_word(bad_a.bytes + POMURICA_BLOCK_SIZE, POMURICA_STEP_A, 4);
+    pomurica_put_word(svc.bytes + POMURICA_BLOCK_SIZE, POMURICA_STEP_CODE, POMURICA_EVENT_SVC);
+    expect_outcome(&from_user, POMURICA_DONE, 0, "returns");
+    expect_outcome(&from_no_mode, POMURICA_DONE, 0, "returns");
+    expect_outcome(&bad_saved_word, POMURICA_DONE, 0, "returns");
+    expect_outcome(&bad_a, POMURICA_DONE, 0, "returns");
+    expect_outcome(&from_user, POMURICA_BAD_STATE, 0, "refused with 3 BAD_STATE");
+    expect_outcome(&right, POMURICA_BAD_STATE, 0, "refused with 3 BAD_STATE");
+    expect_outcome(&svc, POMURICA_BAD_STATE, 0, "refused with 3 BAD_STATE");
+    expect_outcome(&bad_saved_word, POMURICA_NOT_HERE, 0, "refused with 5 NOT_HERE");
+}
+
 int main(void)
 {
     group("each A, 0 to 63, names the register that the step reads and writes");
@@ -325,12 +519,16 @@ int main(void)
     group("what is said of an event with an operand out of its range, or of no event");
     try_bad_operands();
     group("an event is said to be bad exactly where the step answers BAD_EVENT");
-    try_events();
+    for (size_t i = 0; i < COUNT_OF(MODES); i++)
+        try_events(MODES[i]);
     group("what is said to come of an event");
     try_outcomes();
     group("a call is said to be disabled, and why, exactly where the step answers DISABLED");
     try_calls();
     try_unjudged();
+    group("a return is said to go on where the step leads it, and to be illegal, and why, exactly where it is");
+    try_returns();
+    try_unjudged_returns();
     group("the fields in which a status word differs");
     try_fields();
     try_status_words();

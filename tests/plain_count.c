@@ -19,7 +19,7 @@ static uint32_t by_code(const uint8_t *step)
 {
     const uint32_t code = pomurica_get_word(step, POMURICA_STEP_CODE);
 
-    return code > POMURICA_EVENT_NOTE ? 0 : code;
+    return code > POMURICA_EVENT_RETURN ? 0 : code;
 }
 
 static uint32_t by_answer(const uint8_t *step)

@@ -30,11 +30,14 @@ static const struct pomurica_event MIXED[] = {
     { POMURICA_EVENT_INTERRUPT_CHECK, POMURICA_LINE_IRQ, 0 },             /* enters IRQ mode */
     { POMURICA_EVENT_INTERRUPT_CHECK, POMURICA_LINE_IRQ, 0 },             /* masked by that entry */
     { POMURICA_EVENT_SVC, 1, 0 },                                         /* BAD_EVENT */
-    { POMURICA_EVENT_NOTE + 1, 0, 0 },                                    /* BAD_EVENT */
+    { POMURICA_EVENT_RETURN + 1, 0, 0 },                                  /* BAD_EVENT */
     { POMURICA_EVENT_NOTE, POMURICA_PLACE_PC, 0x9000 },
     { POMURICA_EVENT_NOTE, POMURICA_PLACE_CPSR, 0 },                      /* BAD_MODE */
     { POMURICA_EVENT_NOTE, POMURICA_PLACE_HCR, POMURICA_HCR_TGE },        /* BAD_STATE */
     { POMURICA_EVENT_SVC, 0, 0 },                                         /* enters Supervisor */
+    { POMURICA_EVENT_RETURN, 0, 0 },                                      /* and back */
+    { POMURICA_EVENT_SVC, 0, 0 },                                         /* once more */
+    { POMURICA_EVENT_RETURN, 3, 0 },                                      /* BAD_EVENT */
     { POMURICA_EVENT_BANKED_WRITE, 17, 0x12345678 },                      /* SP_irq */
     { POMURICA_EVENT_BANKED_READ, 17, 0 },
     { POMURICA_EVENT_HVC, 0, 0 },                                         /* DISABLED */
@@ -222,7 +225,7 @@ static const uint8_t *step_of(const struct recording *asked, size_t i)
 /* Each event of the mix answers what its comment says; those behind a refused one are done as if it were not there. */
 static void do_mixed(void)
 {
-    static const uint32_t NUMBERS[] = { 0, 0, 4, 4, 0, 2, 3, 0, 0, 0, 16, 0, 16, 0, 5, 6, 7, 0, 0 };
+    static const uint32_t NUMBERS[] = { 0, 0, 4, 4, 0, 2, 3, 0, 0, 0, 4, 0, 0, 16, 0, 16, 0, 5, 6, 7, 0, 0 };
     const struct recording asked = recording_of(COUNT(MIXED), 1, 1);
 
     _Static_assert(COUNT(NUMBERS) == COUNT(MIXED), "a number for each event");

@@ -93,6 +93,12 @@ def help_lists():
     return {word: form for word, *form in map(str.split, forms.splitlines())}, registers.split(), places.split()
 
 
+def flags_of(form):
+    """The words of an event of which each may stand, `[FIQ] [IRQ]`, and those of which one may, `[less-2|less-4]`."""
+    groups = [operand.strip('[]').split('|') for operand in form if operand.startswith('[')]
+    return [words[0] for words in groups if len(words) == 1], [word for words in groups if len(words) > 1 for word in words]
+
+
 def try_help():
     status, out, told = run('--help')
     expect('--help', (status, told) == (0, b'') and out.startswith(USAGE) and b'Exit status' in out, (status, told))
@@ -102,32 +108,34 @@ def try_help():
     expect('an event for each code of the header, and one in plain numbers',
            sorted(map(code_of, plain)) == list(range(1, len(plain) + 1)) and len(plain) == len(kinds('EVENT')), forms)
     expect('in the order of their codes', [code_of(word) for word in forms if word != 'event'] == sorted(map(code_of, plain)))
-    lines = [re.sub(r'[][]', '', flag) for flag in forms['interrupt']]
-    expect('every line of the header', {line.upper().replace('-', '_') for line in lines} == kinds('LINE'), lines)
-    for word in ('prefetch-abort', 'data-abort'):
-        flags = {re.sub(r'[][]', '', flag).upper().replace('-', '_') for flag in forms[word]}
-        expect(f'every kind of {word} of the header', flags == kinds('ABORT'), flags)
+    for word, kind in {'interrupt': 'LINE', 'prefetch-abort': 'ABORT', 'data-abort': 'ABORT'}.items():
+        flags = {flag.upper().replace('-', '_') for flag in flags_of(forms[word])[0]}
+        expect(f'every {kind} of the header, for {word}', flags == kinds(kind), flags)
+    expect('what a return may take off', flags_of(forms['return']) == ([], ['less-2', 'less-4', 'less-8']), forms['return'])
     expect('every place, in order, by the name that the console shows', places == REGISTERS, places)
     expect('and it is the header\'s', [number_of('PLACE', place) for place in places] == list(range(PLACES)))
     expect('every banked register', sorted(registers) == sorted(REGISTERS[:CPSR]), registers)
 
 
 def try_events():
-    """Every event word, with every set of its flags in any order: code and A, and B 0."""
+    """Every event word, with every set of its flags in any order, or one word of a choice: code and A, and B 0."""
     forms, dice = help_lists()[0], random.Random(7)
     script, due = '', []
     for word, form in forms.items():
-        flags = [re.sub(r'[][]', '', flag) for flag in form if flag.startswith('[')]
-        if form and not flags:
+        flags, choice = flags_of(form)
+        if form and not flags + choice:
             continue
         kind = 'LINE' if word == 'interrupt' else 'ABORT'
         for some in itertools.chain.from_iterable(itertools.combinations(flags, size) for size in range(len(flags) + 1)):
             script += ' '.join([word, *dice.sample(some, len(some))]) + '\n'
             due.append([code_of(word), sum(number_of(kind, flag) for flag in some), 0])
+        for one in choice:
+            script += f'{word} {one}\n'
+            due.append([code_of(word), int(one.removeprefix('less-')), 0])
     expect(f'{len(due)} events without an operand or with words', events(script) == due and len(due) > 40, script)
     expect('note of every place', events(''.join(f'note {place} {7 * i}\n' for i, place in enumerate(REGISTERS))) ==
            [[code_of('note'), number_of('PLACE', place), 7 * i] for i, place in enumerate(REGISTERS)])
-    numbers = [0, 1, 9, 10, 13, 255, 2**31, MOST_WORD]
+    numbers = [0, 1, 9, 10, 13, 14, 255, 2**31, MOST_WORD]
     plain = [list(three) for three in itertools.product(numbers, repeat=3)]
     script = ''.join(f'event {code} {a:#x} {b}\n' for code, a, b in plain)
     expect(f'{len(plain)} events in plain numbers', events(script) == plain)
@@ -195,6 +203,7 @@ NUMBER = 'a number, decimal or 0x and hexadecimal digits, of at most 32 bits'
 REGISTER = 'a banked register (record --help lists them)'
 EVENT = 'an event (record --help lists them)'
 LINE = 'an interrupt line (record --help lists them)'
+AMOUNT = 'an amount to take off LR (record --help lists them)'
 FIRST = 'an event, or PLACE = NUMBER (record --help lists them)'
 ASCII, SHOWN = 'ASCII text, outside of comments', 'a comment of characters that are shown, in UTF-8'
 TWICE, LATE = 'each word at most once', 'an event: the start block comes before the first one'
@@ -259,6 +268,13 @@ WRONG = [
     ('note R8', 1, 6, '`R8`', 'a place of the block (record --help lists them)'),
     ('note R8_usr', 1, 12, END, NUMBER),
     ('note R8_usr 7 8', 1, 15, '`8`', END),
+    ('return 4', 1, 8, '`4`', AMOUNT),
+    ('return less 4', 1, 8, '`less`', AMOUNT),
+    ('return less-3', 1, 8, '`less-3`', AMOUNT),
+    ('return less-0', 1, 8, '`less-0`', AMOUNT),
+    ('return Less_4', 1, 8, '`Less_4`', '`less-4`'),
+    ('return less-4 less-2', 1, 15, '`less-2`', END),
+    ('svc\nRETURN', 2, 1, '`RETURN`', '`return`'),
     ('event', 1, 6, END, NUMBER),
     ('event 1', 1, 8, END, NUMBER),
     ('event 1 2', 1, 10, END, NUMBER),
@@ -273,6 +289,8 @@ WRONG = [
     (b'SCR =\1', 1, 6, 'byte 0x01', ASCII),
     (b'read \1', 1, 6, 'byte 0x01', ASCII),
     (b'interrupt IRQ\t\1', 1, 15, 'byte 0x01', ASCII),
+    (b'return \1', 1, 8, 'byte 0x01', ASCII),
+    (b'return less-4\1', 1, 14, 'byte 0x01', ASCII),
     (b'svc \1', 1, 5, 'byte 0x01', ASCII),
     (b'svc\r', 1, 4, 'byte 0x0D', ASCII),
     (b'svc\rsvc', 1, 4, 'byte 0x0D', ASCII),
@@ -348,7 +366,7 @@ def any_event(dice, forms, registers):
     out = [word]
     for operand in form:
         if operand.startswith('['):
-            out += [operand.strip('[]')] * dice.getrandbits(1)
+            out += [dice.choice(operand.strip('[]').split('|'))] * dice.getrandbits(1)
         else:
             out.append(dice.choice(registers) if operand == 'REGISTER' else dice.choice(REGISTERS) if operand == 'PLACE'
                        else str(dice.choice([0, 1, 2, 9, 12, 13, 31, 33, 0x10, 0x13, 0x1A, 2**31, MOST_WORD])))
@@ -378,6 +396,11 @@ def try_check():
            [line.rpartition('; ')[2] for line in disabled if ': note: ' not in line] ==
            ['refused with 16 DISABLED (HVC is disabled: SCR.HCE is 0)', 'enters Undefined mode at 0x04',
             'refused with 16 DISABLED (SMC is disabled: SCR.SCD is 1)', 'enters Undefined mode at 0x04'], disabled)
+    returns = run('--check', os.path.join(SAMPLES, 'svc-and-return.script'))[1].decode().splitlines()
+    expect('returns have what is taken off, and where they go on',
+           [line.split(': ', 2)[2] for line in returns if ': return: ' in line] ==
+           [f'exception return{less}; Non-secure {state}; returns to Non-secure User at 0x00008004' for less, state in
+            [('', 'Supervisor, masked I'), (', LR less 4', 'IRQ, masked A I'), ('', 'Hyp, masked A I F')]], returns)
     expect_run('--check of no event', ['--check', write('script', b'SCR = 1\n')], 0, b'')
 
 

@@ -15,7 +15,8 @@ def any_of(*patterns):
 NUMBER, COUNT, BYTE, WORD = '[0-9]+', '[0-9]{1,3}(,[0-9]{3})*', '0x[0-9A-F]{2}', '0x[0-9A-F]{8}'
 ANSWER = f'{NUMBER} ' + any_of(*'DONE BAD_SIZE BAD_MODE BAD_STATE BAD_EVENT NOT_HERE NO_REGISTER NO_RIGHT SHORT BAD_RECORD '
                                'BAD_COUNT WRONG_STEP TRAILING FULL CLOSED NO_ROOM DISABLED UNKNOWN'.split())
-WHY = any_of(r'HVC is disabled: SCR\.HCE is 0', r'SMC is disabled: SCR\.SCD is 1')
+REASONED = any_of(r'16 DISABLED \(HVC is disabled: SCR\.HCE is 0\)', r'16 DISABLED \(SMC is disabled: SCR\.SCD is 1\)',
+                  r'3 BAD_STATE \(bits 24-21 of the saved word are not 0\)')
 REGISTER = any_of(*REGISTERS)
 BANKED = any_of(*REGISTERS[:REGISTERS.index('CPSR')], r'no register \(R [01] SYSm 0x[01][0-9A-F]\)')
 RECORD = any_of('the Start', 'a Step', 'the End')
@@ -26,13 +27,20 @@ EVENT = any_of('Undefined Instruction', 'SVC', 'SMC', 'HVC', 'Hyp Trap', 'Monito
                'interrupt check, no line', f'interrupt check, lines {LINE}( and {LINE})*',
                f'banked (read of|write of {WORD} to) {BANKED}',
                f'note: {REGISTER} becomes {WORD}',
+               'exception return(, LR less [248])?',
+               f'exception return, A {NUMBER}, which must be (0, 2, 4 or 8|0 from Hyp)',
                f'event of code {NUMBER}, which is none',
                f'((Prefetch|Data) Abort|interrupt check|banked read|(banked write|note) of {WORD}), A {NUMBER}, above {NUMBER}')
 EVENT += f'(, A {NUMBER}, which must be 0)?(, B {NUMBER}, which must be 0)?'
-STATE = (any_of(f'(Secure|Non-secure) {MODE}', 'Monitor with NS [01]', f'mode {BYTE}, which is none') +
+IN_MODE = any_of(f'(Secure|Non-secure) {MODE}', 'Monitor with NS [01]')
+STATE = (any_of(IN_MODE, f'mode {BYTE}, which is none') +
          any_of(', nothing masked', ', masked A( I)?( F)?', ', masked I( F)?', ', masked F'))
-OUTCOME = any_of(f'refused with {ANSWER}', rf'refused with 16 DISABLED \({WHY}\)', f'reads {WORD}', 'written', 'takes nothing',
-                 f'((virtual )?(SError|FIQ|IRQ): )?enters ({MODE}|no) mode at {BYTE}')
+ILLEGAL = any_of(f'mode {BYTE} is none', '(Monitor|Hyp) is above Exception level [12]', 'Hyp with NS 0',
+                 f'Non-secure {MODE} with TGE 1')
+RETURN = any_of(f'returns( to {IN_MODE} at {WORD})?',  # where to, unless nobody judged it and the rules refuse it
+                rf'illegal return \({ILLEGAL}\): stays in {IN_MODE}, IL becomes 1, goes on at {WORD}')
+OUTCOME = any_of(f'refused with {ANSWER}', f'refused with {REASONED}', f'reads {WORD}', 'written', 'takes nothing',
+                 f'((virtual )?(SError|FIQ|IRQ): )?enters ({MODE}|no) mode at {BYTE}', RETURN)
 
 VALUE = any_of('set', 'clear', BYTE, MODE)
 DIFFERENCE, CHANGE = (f'{any_of(*FIELDS)} {VALUE}, {due} {VALUE}' for due in ('due', 'was'))
@@ -58,7 +66,7 @@ SAID = {
         r'There is nothing to draw: the Start itself is refused\.',
         r'A column is one Step, with a bar in the mode that it was in\.',
         rf'A column is {NUMBER} Steps\. The height of a bar is the share of them that were in the mode, '
-        r'or were entries or refusals; a single one still shows\.',
+        r'or were entries, returns or refusals; a single one still shows\.',
         r'There is no Step to list\.',
         r'A Step opens to the words that it changed\.',
         rf'Step {COUNT} is not listed\.',
@@ -67,12 +75,13 @@ SAID = {
         r'No word changed\.'),
     'a': any_of('in the timeline', 'in the list'),
     'h2': any_of('Modes by Step', 'Steps'),
-    'li': any_of(f'entries, which took an exception: {COUNT}', f'refusals, by the rules: {COUNT}', 'the first bad Step',
-                 'recorded behind it, not judged', 'the mode at the end'),
+    'li': any_of(f'entries, which took an exception: {COUNT}', f'returns, legal or not: {COUNT}',
+                 f'refusals, by the rules: {COUNT}', 'the first bad Step', 'recorded behind it, not judged',
+                 'the mode at the end'),
     'text': any_of(  # in a picture, where an event's name may be cut to its first word
-        'guest', 'Secure', 'no mode', 'entries', 'refusals', MODE, COUNT, 'end', f'Step {COUNT} WRONG',
+        'guest', 'Secure', 'no mode', 'entries', 'returns', 'refusals', MODE, COUNT, 'end', f'Step {COUNT} WRONG',
         f'stops here: {ANSWER} at byte {NUMBER}', 'SVC', 'SMC', 'HVC', 'Prefetch( Abort)?', 'Data Abort', 'Hyp Trap',
-        'Monitor Trap', 'interrupt( check)?', 'banked read', 'banked write', 'note'),
+        'Monitor Trap', 'interrupt( check)?', 'banked read', 'banked write', 'note', 'return'),
     'title': f'Step {NUMBER}: {EVENT}; {STATE}',  # of a Step in a picture
     'span': any_of('Step', 'at byte', 'event', 'it was in', 'outcome', NUMBER, EVENT, STATE, OUTCOME,
                    f'; the rules give: {OUTCOME}'),

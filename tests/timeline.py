@@ -16,12 +16,12 @@ sys.dont_write_bytecode = True
 from page import Page  # noqa: E402
 from records import PLACES, START_BLOCK, START_SIZE, STEP_BLOCK, STEP_KIND, STEP_SIZE  # noqa: E402
 from walks import (  # noqa: E402
-    BANKED_READ, BANKED_WRITE, CPSR, DONE, HYP, INTERRUPT_CHECK, MODE_BITS, MODES, MONITOR, NOT_HERE, NOTE, NS, SCR,
+    BANKED_READ, BANKED_WRITE, CPSR, DONE, HYP, INTERRUPT_CHECK, MODE_BITS, MODES, MONITOR, NOT_HERE, NOTE, NS, RETURN, SCR,
     damaged, walk, walk_without_mode)
 
 COMMAND = sys.argv[1:]
 LANES = {'monitor': 'Monitor', 'hyp': 'Hyp', 'guest': 'guest', 'secure': 'Secure', 'none': 'no mode'}
-MARKS = {'entry': 'entries', 'refusal': 'refusals'}
+MARKS = {'entry': 'entries', 'return': 'returns', 'refusal': 'refusals'}
 
 # How Steps are spread over rows and columns (docs/DECISIONS.md, "The page").
 MOST_SINGLE, SINGLE, SHARED, MOST_ROWS = 2000, 100, 500, 14
@@ -53,6 +53,8 @@ def mark_of(code, number, value):
     """The strip that a Step is marked in, if any."""
     if number != DONE:
         return 'refusal'
+    if code == RETURN:
+        return 'return'
     is_silent = code in (BANKED_READ, BANKED_WRITE, NOTE) or (code == INTERRUPT_CHECK and value == 0)
     return None if is_silent else 'entry'
 

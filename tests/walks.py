@@ -2,7 +2,7 @@
 
 The start block is all zero but for CPSR, so HCR routes nothing to Hyp, every vector stands at 0, and of document 01's rules a
 few are enough: a note is done where the block that it makes is good, SMC enters Monitor from any mode but User, unless SCD
-disables it (No. 8), an interrupt check without a line takes nothing.
+disables it (No. 8), an interrupt check without a line takes nothing. A return (No. 9) is legal or not without a look at TGE.
 """
 import random
 import struct
@@ -10,12 +10,15 @@ import struct
 from records import (
     BLOCK_SIZE, END_SIZE, NOTE, PLACES, START_SIZE, STEP_BLOCK, STEP_KIND, STEP_SIZE, end_record, start_record)
 
-R8_USR, LR_MON, ELR_HYP, SPSR_MON, CPSR, PC, SCR = 0, 22, 24, 31, 33, 34, 35
+R8_USR, LR_SVC, LR_MON, ELR_HYP, SPSR_SVC, SPSR_MON, SPSR_HYP, CPSR, PC, SCR = 0, 16, 22, 24, 28, 31, 32, 33, 34, 35
 MODES = USER, FIQ, IRQ, SUPERVISOR, MONITOR, ABORT, HYP, UNDEFINED, SYSTEM = (
     0x10, 0x11, 0x12, 0x13, 0x16, 0x17, 0x1A, 0x1B, 0x1F)
 NO_MODE = 0x15
-MODE_BITS, NS, SCD = 0x1F, 1, 1 << 7
-SMC, INTERRUPT_CHECK, BANKED_READ, BANKED_WRITE, NO_EVENT = 3, 9, 10, 11, 13
+# Of each mode that has them, where its saved word and the address of a return lie.
+SAVED = {FIQ: (26, 13), IRQ: (27, 14), SUPERVISOR: (SPSR_SVC, LR_SVC), ABORT: (29, 18), UNDEFINED: (30, 20),
+         MONITOR: (SPSR_MON, LR_MON), HYP: (SPSR_HYP, ELR_HYP)}
+MODE_BITS, IL, NS, SCD = 0x1F, 1 << 20, 1, 1 << 7
+SMC, INTERRUPT_CHECK, BANKED_READ, BANKED_WRITE, RETURN, NO_EVENT = 3, 9, 10, 11, 13, 14
 ELR_HYP_CELL, NO_CELL = 30, 7
 DONE, BAD_MODE, BAD_STATE, BAD_EVENT, NOT_HERE, NO_REGISTER, NO_RIGHT, DISABLED = 0, 2, 3, 4, 5, 6, 7, 16
 LONGEST_STAY = 30
@@ -70,6 +73,26 @@ class Walk:
             self.block[ELR_HYP] = word
         self.record(code, ELR_HYP_CELL, word, number, self.block[ELR_HYP] if (code, number) == (BANKED_READ, DONE) else 0)
 
+    def level(self, mode):
+        """The Exception level of a mode."""
+        return {MONITOR: 3, HYP: 2, USER: 0}.get(mode, 1 if self.block[SCR] & NS else 3)
+
+    def is_legal(self, mode):
+        """Whether a return may lead to a mode."""
+        return (mode in MODES and self.level(mode) <= self.level(self.mode()) and
+                (mode != HYP or self.block[SCR] & NS != 0))
+
+    def leave(self):
+        """A return that takes nothing off; the saved words of a walk have T 0."""
+        if self.mode() not in SAVED:
+            self.record(RETURN, 0, 0, NOT_HERE)
+            return
+        saved, address = (self.block[place] for place in SAVED[self.mode()])
+        is_legal = self.is_legal(saved & MODE_BITS)
+        self.block[CPSR] = saved if is_legal else saved & ~MODE_BITS | self.mode() | IL
+        self.block[PC] = address & ~3
+        self.record(RETURN, 0, 0, DONE)
+
     def stay(self):
         """A Step that leaves the mode as it is."""
         self.chance.choice([
@@ -88,6 +111,8 @@ class Walk:
             self.call_monitor,
             lambda: self.note(CPSR, self.chance.choice(MODES)),
             lambda: self.note(SCR, self.block[SCR] ^ self.chance.choice((NS, NS, NS, SCD))),
+            lambda: self.note(self.chance.choice((SPSR_SVC, SPSR_MON, SPSR_HYP)), self.chance.choice(MODES)),
+            self.leave,
         ])()
 
     def go(self, count):

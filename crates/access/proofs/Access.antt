@@ -18,7 +18,7 @@ use Rattle.state.proofs.Good.{parts-of-good}
 use Rattle.state.proofs.Test.{at-one, refuted, true-is-not-false, first-of-two}
 use Rattle.banked.specs.Cell.{cell}
 use Rattle.banked.specs.Right.{denied, right}
-use Rattle.rules.specs.Event.{BANKED-READ, BANKED-WRITE, CELL-VALUES, badEvent}
+use Rattle.rules.specs.Event.{BANKED-READ, BANKED-WRITE, RETURN, CELL-VALUES, badEvent}
 use Rattle.rules.specs.Parts.{Told, Carried}
 use Rattle.rules.specs.Step.{Action, Refuse, Read, Put, action}
 use Rattle.rules.specs.Verdict.{answerFor, refusedWith}
@@ -104,5 +104,6 @@ module _ (b : List ℕ) (a : ℕ) {cpsr scr : ℕ} (ec : cpsr ≡ word b CPSR) (
 
 -- an event whose operands were found to be out of their range
 pub malformed : (b : List ℕ) (code a w : ℕ) {r : Bool} {n : ℕ} {m : List ℕ} → length b ≡ BLOCK-SIZE → fault b ≡ DONE
+    → (code is RETURN) ≡ false
     → r ≡ badEvent code a w → r ≡ true → Told (refusedWith BAD-EVENT) n m → Carried b (action b (event code a w)) n b m
-malformed b code a w size good e h = refused b BAD-EVENT (bad-event b a w size good code (sym e ∙ h))
+malformed b code a w size good other e h = refused b BAD-EVENT (bad-event b a w size good code other (sym e ∙ h))

@@ -1,4 +1,4 @@
--- What the rules answer has a word in each group: numbers are below 8, and the value of an exception tells a mode and an
+-- What the rules answer has a word in each group: numbers are below 17, and the value of an exception tells a mode and an
 -- exception that are below 32.
 use mathlib.Core.Path.{_≡_, refl, sym, ap, _∙_}
 use mathlib.Core.Bool.{Bool, true, false, not, _&&_, _||_}
@@ -21,7 +21,7 @@ use Rattle.interrupts.proofs.Laws.{found-cases}
 use Rattle.rules.specs.declared.event.Event.{Event}
 use Rattle.rules.specs.Parts.{Sound}
 use Rattle.rules.specs.Refusal.{refusal}
-use Rattle.rules.specs.Step.{Action, Refuse, Take, Quiet, Read, Put, takenBy, checkedIn, interruptWay, eventWay}
+use Rattle.rules.specs.Step.{Action, Refuse, Take, Quiet, Read, Put, Return, takenBy, checkedIn, interruptWay, eventWay}
 use Rattle.rules.specs.Step.{answerTo, doneAction, action, answer}
 use Rattle.rules.specs.Verdict.{value}
 use Rattle.rules.proofs.Deciding.{by-code}
@@ -44,6 +44,7 @@ NoRead (Take x to offset link) = Unit {0}
 NoRead (Quiet lines) = Unit {0}
 NoRead (Read p) = ⊥
 NoRead (Put p w) = Unit {0}
+NoRead (Return cpsr pc) = Unit {0}
 
 abbrev Small : ℕ → Type 0
 Small v = (v / 256 % 256 < GROUP-SIZE) × (v / 65536 < GROUP-SIZE)
@@ -59,6 +60,7 @@ small-value b (Take x to offset link) s h =
 small-value b (Quiet lines) s h = (lit< tt, lit< tt)
 small-value b (Read p) s h = absurd h
 small-value b (Put p w) s h = (lit< tt, lit< tt)
+small-value b (Return cpsr pc) s h = (lit< tt, lit< tt)
 
 -- an exception reads none
 taken-no-read : (x : Exception) (w : Way) → NoRead (takenBy x w)
@@ -71,7 +73,7 @@ done-no-read b code a w n =
     by-code NoRead b code a w
     (λ e. found-cases (λ (f : Found). NoRead (checkedIn b a f)) a (word b CPSR) (word b SCR) (word b HCR) tt
     (λ x k t. taken-no-read x (interruptWay b x)))
-    (λ e. n e) (λ e. tt) (λ e. tt) (λ o. taken-no-read _ (eventWay b code a))
+    (λ e. n e) (λ e. tt) (λ e. tt) (λ e. tt) (λ o. taken-no-read _ (eventWay b code a))
 
 no-read : (b : List ℕ) (e : Event) → (e .code ≡ BANKED-READ → ⊥) → NoRead (action b e)
 unfolding action

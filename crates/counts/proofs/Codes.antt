@@ -1,4 +1,4 @@
--- The codes in the order of their numbers: those that the rules know are 1 to 12, the synchronous ones 1 to 8.
+-- The codes in the order of their numbers: those that the rules know are 1 to 13, the synchronous ones 1 to 8.
 use mathlib.Core.Path.{_≡_, refl, sym, ap, _∙_}
 use mathlib.Core.Bool.{Bool, true, false, not, _&&_, _||_}
 use Prim.Native.Nat.{ℕ, _+_, _/_, _%_, _<_, _≤_}
@@ -8,20 +8,20 @@ use borrow.Author.Tests.{eq-eqb, ne-eqb, eqb-true, ltb-true, leb-true, leb-false
 use Rattle.state.specs.Choice.{if_then_else_, _is_}
 use Rattle.state.specs.Number.{DONE}
 use Rattle.state.proofs.Test.{refuted, everyBelow, at-below, everyOf, at-one, same, same-eq}
-use Rattle.entry.specs.Code.{codes, synchronous-codes, isKnown, isSynchronous, INTERRUPT-CHECK, MONITOR-TRAP, NOTE}
+use Rattle.entry.specs.Code.{codes, synchronous-codes, isKnown, isSynchronous, INTERRUPT-CHECK, MONITOR-TRAP, RETURN}
 use Rattle.counts.specs.Parts.{stepOf, targetNumber, takenNumber, NOWHERE}
 
 -- ---- known codes
 
-pub numbered : (n : ℕ) → n ≤ NOTE → n ≡ (if isKnown n then n else 0)
+pub numbered : (n : ℕ) → n ≤ RETURN → n ≡ (if isKnown n then n else 0)
 numbered n l =
     eqb-true n (if isKnown n then n else 0)
-    (at-below 13 (λ (k : ℕ). k is (if isKnown k then k else 0)) refl n (omega arith))
+    (at-below 14 (λ (k : ℕ). k is (if isKnown k then k else 0)) refl n (omega arith))
 
-known-low : (n : ℕ) → isKnown n ≡ true → n < 13
-known-low n h = ltb-true n 13 (at-one codes (λ (k : ℕ). ltb k 13) refl n h)
+known-low : (n : ℕ) → isKnown n ≡ true → n < 14
+known-low n h = ltb-true n 14 (at-one codes (λ (k : ℕ). ltb k 14) refl n h)
 
-pub unknown : (n : ℕ) → NOTE < n → 0 ≡ (if isKnown n then n else 0)
+pub unknown : (n : ℕ) → RETURN < n → 0 ≡ (if isKnown n then n else 0)
 unknown n l =
     let e : isKnown n ≡ false = refuted (isKnown n) (λ h. omega (arith, known-low n h)) in
     ap (λ (t : Bool). if t then n else 0) (sym e)

@@ -53,7 +53,7 @@ fn bump(gains: &mut [u8], first: usize, number: u32)
 fn code_number(code: u32) -> u32
     ensures { λ r. ⌜ r ≡ (if isKnown code then code else 0) ⌝ }
 {
-    if code <= code::NOTE { code } else { 0 }
+    if code <= code::RETURN { code } else { 0 }
 }
 
 fn is_synchronous(code: u32) -> bool

@@ -64,49 +64,59 @@ nsAfter m to ns = ns && not (m is MONITOR && not (to is HYP))
 abbrev pub mayStand : ℕ → ℕ → Bool → Bool → Bool
 mayStand m to ns tge = known to && stands to (nsAfter m to ns) tge
 
--- ---- the test
+-- ---- the test: what holds of every mode that may stand, every code that may be here and every bit holds of where an event goes
 
-abbrev keeps : ℕ → ℕ → Bool → Bool → Bool → Bool → Bool → Bool → Bool
-keeps m code ns ea tsc tge ext two =
-    implies (stands m ns tge && not (notHereB code m ns two)) (mayStand m (targetB code m ns ea tsc tge ext two) ns tge)
+module _ (P : ℕ → ℕ → Bool → Bool → Bool) where
+  abbrev goesTo : ℕ → ℕ → Bool → Bool → Bool → Bool → Bool → Bool → Bool
+  goesTo m code ns ea tsc tge ext two =
+      implies (stands m ns tge && not (notHereB code m ns two)) (P m (targetB code m ns ea tsc tge ext two) ns tge)
 
-abbrev everywhere : ℕ → ℕ → Bool
-everywhere m code =
-    everyBit (λ ns. everyBit (λ ea. everyBit (λ tsc. everyBit (λ tge. everyBit (λ ext. everyBit (keeps m code ns ea tsc tge ext))))))
+  abbrev everywhere : ℕ → ℕ → Bool
+  everywhere m code =
+      everyBit (λ ns. everyBit (λ ea. everyBit (λ tsc. everyBit (λ tge. everyBit (λ ext. everyBit (goesTo m code ns ea tsc tge ext))))))
 
-tried : everyOf modes (λ m. everyOf synchronous-codes (everywhere m)) ≡ true
+  abbrev pub everyEvent : Bool
+  everyEvent = everyOf modes (λ m. everyOf synchronous-codes (everywhere m))
+
+  pub of-target : everyEvent ≡ true → (code a cpsr scr hcr : ℕ) → Good cpsr scr hcr → isSynchronous code ≡ true
+      → notHere code a cpsr scr ≡ false
+      → P (mode-field cpsr) (target code a cpsr scr hcr) (SCR-NS scr) (HCR-TGE hcr) ≡ true
+  unfolding known
+  of-target tried code a cpsr scr hcr g c n =
+      let m = mode-field cpsr in
+      let ns = SCR-NS scr in
+      let ea = SCR-EA scr in
+      let tsc = HCR-TSC hcr in
+      let tge = HCR-TGE hcr in
+      let ext = external a in
+      let two = stage2 a in
+      let at-mode = at-one modes (λ m. everyOf synchronous-codes (everywhere m)) tried m (g .known-mode) in
+      let at : everywhere m code ≡ true = at-one synchronous-codes (everywhere m) at-mode code c in
+      let k : goesTo m code ns ea tsc tge ext two ≡ true =
+      at-bit (goesTo m code ns ea tsc tge ext)
+      (at-bit (λ ext. everyBit (goesTo m code ns ea tsc tge ext))
+      (at-bit (λ tge. everyBit (λ ext. everyBit (goesTo m code ns ea tsc tge ext)))
+      (at-bit (λ tsc. everyBit (λ tge. everyBit (λ ext. everyBit (goesTo m code ns ea tsc tge ext))))
+      (at-bit (λ ea. everyBit (λ tsc. everyBit (λ tge. everyBit (λ ext. everyBit (goesTo m code ns ea tsc tge ext)))))
+      (at-bit (λ ns. everyBit (λ ea. everyBit (λ tsc. everyBit (λ tge. everyBit (λ ext. everyBit (goesTo m code ns ea tsc tge ext)))))) at
+      ns) ea) tsc) tge) ext) two in
+      let h : not (notHereB code m ns two) ≡ true = ap not (sym (here-bits code a cpsr scr) ∙ n) in
+      rw (target-bits code a cpsr scr hcr)
+      (implied (stands m ns tge && not (notHereB code m ns two)) (P m (targetB code m ns ea tsc tge ext two) ns tge) k
+      (both {a = stands m ns tge} (g .standing) h))
+
+-- so the target may stand there
+tried : everyEvent mayStand ≡ true
 unfolding known el1
 tried = refl
 
 pub target-stands : (code a cpsr scr hcr : ℕ) → Good cpsr scr hcr → isSynchronous code ≡ true → notHere code a cpsr scr ≡ false
     → mayStand (mode-field cpsr) (target code a cpsr scr hcr) (SCR-NS scr) (HCR-TGE hcr) ≡ true
-unfolding known
-target-stands code a cpsr scr hcr g c n =
-    let m = mode-field cpsr in
-    let ns = SCR-NS scr in
-    let ea = SCR-EA scr in
-    let tsc = HCR-TSC hcr in
-    let tge = HCR-TGE hcr in
-    let ext = external a in
-    let two = stage2 a in
-    let at-mode = at-one modes (λ m. everyOf synchronous-codes (everywhere m)) tried m (g .known-mode) in
-    let at : everywhere m code ≡ true = at-one synchronous-codes (everywhere m) at-mode code c in
-    let k : keeps m code ns ea tsc tge ext two ≡ true =
-    at-bit (keeps m code ns ea tsc tge ext)
-    (at-bit (λ ext. everyBit (keeps m code ns ea tsc tge ext))
-    (at-bit (λ tge. everyBit (λ ext. everyBit (keeps m code ns ea tsc tge ext)))
-    (at-bit (λ tsc. everyBit (λ tge. everyBit (λ ext. everyBit (keeps m code ns ea tsc tge ext))))
-    (at-bit (λ ea. everyBit (λ tsc. everyBit (λ tge. everyBit (λ ext. everyBit (keeps m code ns ea tsc tge ext)))))
-    (at-bit (λ ns. everyBit (λ ea. everyBit (λ tsc. everyBit (λ tge. everyBit (λ ext. everyBit (keeps m code ns ea tsc tge ext)))))) at
-    ns) ea) tsc) tge) ext) two in
-    let h : not (notHereB code m ns two) ≡ true = ap not (sym (here-bits code a cpsr scr) ∙ n) in
-    rw (target-bits code a cpsr scr hcr)
-    (implied (stands m ns tge && not (notHereB code m ns two)) (mayStand m (targetB code m ns ea tsc tge ext two) ns tge) k
-    (both {a = stands m ns tge} (g .standing) h))
+target-stands = of-target mayStand tried
 
 -- ---- the block after an entry
 
-cleared-bit : (w : ℕ) (t : Bool) → SCR-NS (if t then without 0 w else w) ≡ (SCR-NS w && not t)
+pub cleared-bit : (w : ℕ) (t : Bool) → SCR-NS (if t then without 0 w else w) ≡ (SCR-NS w && not t)
 cleared-bit w true = ne-eqb (without 0 w / 1 % 2) 1 (λ e. omega arith) ∙ sym (and-false (SCR-NS w))
 cleared-bit w false = sym (and-true (SCR-NS w))
 

@@ -42,12 +42,16 @@ BANKED-WRITE = 11
 abbrev pub NOTE : ℕ
 NOTE = 12
 
+-- (document 02, No. 9)
+abbrev pub RETURN : ℕ
+RETURN = 13
+
 abbrev pub synchronous-codes : List ℕ
 synchronous-codes =
     UNDEFINED-INSTRUCTION ∷ SVC ∷ SMC ∷ HVC ∷ PREFETCH-ABORT ∷ DATA-ABORT ∷ HYP-TRAP ∷ MONITOR-TRAP ∷ []
 
 abbrev pub other-codes : List ℕ
-other-codes = INTERRUPT-CHECK ∷ BANKED-READ ∷ BANKED-WRITE ∷ NOTE ∷ []
+other-codes = INTERRUPT-CHECK ∷ BANKED-READ ∷ BANKED-WRITE ∷ NOTE ∷ RETURN ∷ []
 
 -- the codes of the table
 abbrev pub codes : List ℕ

@@ -22,3 +22,6 @@ pub const BANKED_READ: u32 = 10;
 pub const BANKED_WRITE: u32 = 11;
 
 pub const NOTE: u32 = 12;
+
+// (document 02, No. 9)
+pub const RETURN: u32 = 13;

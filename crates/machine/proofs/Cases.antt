@@ -7,9 +7,9 @@ use Prim.Native.Nat.{ℕ}
 use lib.Dec.{eqb}
 use lib.ListN.{replicate}
 use Rattle.words.specs.Word.{spelt, word, put}
-use Rattle.state.specs.Mode.{known, el1, guest, spsrPlace, lrPlace}
-use Rattle.state.specs.Number.{DONE, NOT-HERE, NO-REGISTER, NO-RIGHT, DISABLED}
-use Rattle.state.specs.Place.{BLOCK-SIZE, LR-irq, LR-svc, LR-abt, LR-mon, ELR-hyp, CPSR, PC, SCR, HCR, VBAR-ns}
+use Rattle.state.specs.Mode.{known, el1, guest, isTarget, spsrPlace, lrPlace}
+use Rattle.state.specs.Number.{DONE, BAD-STATE, BAD-EVENT, NOT-HERE, NO-REGISTER, NO-RIGHT, DISABLED}
+use Rattle.state.specs.Place.{BLOCK-SIZE, LR-irq, LR-svc, LR-abt, LR-mon, ELR-hyp, SPSR-svc, SPSR-mon, SPSR-hyp, CPSR, PC, SCR, HCR, VBAR-ns}
 use Rattle.state.specs.State.{good}
 use Rattle.entry.specs.Code.{SVC, SMC, HVC}
 use Rattle.entry.specs.Enter.{nsCleared, masksAfter, cpsrAfter, vectorBase, written, entered}
@@ -19,7 +19,10 @@ use Rattle.interrupts.specs.Masking.{obeyed}
 use Rattle.interrupts.specs.Takeable.{pending, masked, takeable}
 use Rattle.banked.specs.Cell.{cell}
 use Rattle.banked.specs.Right.{denied, right}
-use Rattle.rules.specs.Event.{INTERRUPT-CHECK, BANKED-READ, badEvent}
+use Rattle.returns.specs.Illegal.{illegal}
+use Rattle.returns.specs.Level.{level}
+use Rattle.returns.specs.Return.{wrongA, modeKept, wordAfter, addressAfter}
+use Rattle.rules.specs.Event.{INTERRUPT-CHECK, BANKED-READ, RETURN, badEvent}
 use Rattle.rules.specs.declared.event.Event.{Event}
 use Rattle.rules.specs.Refusal.{refusal}
 use Rattle.rules.specs.Step.{doneAction, action, answer, after}
@@ -157,3 +160,43 @@ unfolding spelt put known el1 guest spsrPlace lrPlace good nsCleared masksAfter 
     synchronous.notHere synchronous.disabled synchronous.way interrupt.found interrupt.way obeyed pending masked takeable cell denied
     right badEvent refusal doneAction action answer after value
 calls-right = refl
+
+-- ---- No. 9 of document 02
+
+-- a return that is refused: start, A, number
+abbrev stays : Words → ℕ → ℕ → Case
+stays start a number = record { start = start; code = RETURN; a = a; number = number; told = 0; left = start }
+
+abbrev returns : List Case
+returns =
+    -- legal: from an SVC back to User; T 1 clears one bit, T 0 two; "wrapping"; IT and IL come back as they were saved
+    gives ((SPSR-svc, 0x10) ∷ (LR-svc, 0x9004) ∷ with 1 0x13) RETURN 0 0 ((CPSR, 0x10) ∷ (PC, 0x9004) ∷ (SPSR-svc, 0x10) ∷ [])
+    ∷ gives ((SPSR-svc, 0x30) ∷ (LR-svc, 0x9007) ∷ with 1 0x13) RETURN 0 0 ((CPSR, 0x30) ∷ (PC, 0x9006) ∷ [])
+    ∷ gives ((SPSR-svc, 0x10) ∷ (LR-svc, 0x9005) ∷ with 1 0x13) RETURN 2 0 ((PC, 0x9000) ∷ [])
+    ∷ gives ((SPSR-svc, 0x10) ∷ with 1 0x13) RETURN 8 0 ((PC, 0xFFFFFFF8) ∷ [])
+    ∷ gives ((SPSR-svc, 0x0610FC10) ∷ with 1 0x13) RETURN 0 0 ((CPSR, 0x0610FC10) ∷ [])
+    -- "From Hyp the address is ELR_hyp"
+    ∷ gives ((SPSR-hyp, 0x13) ∷ (ELR-hyp, 0x9004) ∷ with 1 0x1A) RETURN 0 0 ((CPSR, 0x13) ∷ (PC, 0x9004) ∷ [])
+    -- "Secure Supervisor to Monitor is a legal return"
+    ∷ gives ((SPSR-svc, 0x16) ∷ with 0 0x13) RETURN 0 0 ((CPSR, 0x16) ∷ [])
+    -- illegal: a reserved mode; a higher Exception level; Hyp with NS 0
+    ∷ gives ((SPSR-svc, 0x60000034) ∷ (LR-svc, 0x9007) ∷ with 1 0x93) RETURN 0 0 ((CPSR, 0x60100033) ∷ (PC, 0x9006) ∷ [])
+    ∷ gives ((SPSR-svc, 0x1DA) ∷ with 1 0x13) RETURN 0 0 ((CPSR, 0x1001D3) ∷ [])
+    ∷ gives ((SPSR-mon, 0x1A) ∷ with 0 0x16) RETURN 0 0 ((CPSR, 0x100016) ∷ [])
+    -- "Non-secure EL1 with TGE 1", from Hyp and from Monitor with NS 1; with NS 0 TGE plays no part
+    ∷ gives ((HCR, 0x08000000) ∷ (SPSR-hyp, 0x13) ∷ with 1 0x1A) RETURN 0 0 ((CPSR, 0x10001A) ∷ [])
+    ∷ gives ((HCR, 0x08000000) ∷ (SPSR-mon, 0x13) ∷ with 1 0x16) RETURN 0 0 ((CPSR, 0x100016) ∷ [])
+    ∷ gives ((HCR, 0x08000000) ∷ (SPSR-mon, 0x13) ∷ with 0 0x16) RETURN 0 0 ((CPSR, 0x13) ∷ [])
+    -- refused: 3 before 4, 4 before 5
+    ∷ stays ((SPSR-svc, 0x200010) ∷ with 1 0x13) 3 BAD-STATE
+    ∷ stays ((SPSR-svc, 0x10) ∷ with 1 0x13) 3 BAD-EVENT
+    ∷ stays ((SPSR-hyp, 0x13) ∷ with 1 0x1A) 4 BAD-EVENT
+    ∷ stays (with 1 0x10) 1 BAD-EVENT
+    ∷ stays (with 1 0x10) 4 NOT-HERE
+    ∷ stays (with 0 0x1F) 0 NOT-HERE
+    ∷ []
+
+pub returns-right : all returns ≡ true
+unfolding spelt put known el1 guest isTarget spsrPlace lrPlace good illegal level wrongA modeKept wordAfter addressAfter
+    synchronous.notHere synchronous.disabled cell denied right badEvent refusal doneAction action answer after value
+returns-right = refl

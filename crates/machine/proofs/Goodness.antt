@@ -1,24 +1,24 @@
 -- A done step on a good block leaves a good block: where an exception goes its target may stand, and a word that is put leaves
 -- the three that a block is judged by, or is tested on the block that it makes.
 use mathlib.Core.Path.{_≡_, refl, sym, ap, _∙_}
-use mathlib.Core.Bool.{true, false, not, _&&_, _||_}
+use mathlib.Core.Bool.{Bool, true, false, not, _&&_, _||_}
 use mathlib.Core.List.{List}
 use Prim.Native.Nat.{ℕ, _*_, _/_, _%_, _^_, _<_}
 use native.Mathlib.Nat.{div-div-eq-div-mul}
 use native.Mathlib.Omega.{arith}
 use lib.Dec.{eqb}
 use lib.ListN.{length}
-use borrow.Author.Tests.{eqb-true, eqb-false, not-false}
+use borrow.Author.Tests.{eqb-true, eqb-false, eq-eqb, not-false}
 use Rattle.words.specs.Word.{word, put, Bytes}
 use Rattle.words.proofs.Laws.{length-put, bytes-put, word-put-same, word-put-other, spelt-fits}
 use Rattle.state.specs.Choice.{_is_}
 use Rattle.state.specs.Field.{without, mode-field, SCR-NS, HCR-TGE}
-use Rattle.state.specs.Mode.{isTarget}
+use Rattle.state.specs.Mode.{isTarget, spsrPlace}
 use Rattle.state.specs.Number.{DONE}
 use Rattle.state.specs.Place.{BLOCK-SIZE, CPSR, PC, SCR, HCR}
 use Rattle.state.specs.State.{nsUser, nsEl1, fault, faultOf}
-use Rattle.state.proofs.Good.{Good, parts-of-good}
-use Rattle.state.proofs.Test.{and-left, and-right}
+use Rattle.state.proofs.Good.{Good, parts-of-good, good-by-parts}
+use Rattle.state.proofs.Test.{and-left, and-right, true-is-not-false}
 use Rattle.entry.specs.Code.{isSynchronous}
 use Rattle.entry.specs.Enter.{entered}
 use Rattle.entry.specs.Route as synchronous
@@ -35,9 +35,12 @@ use Rattle.interrupts.proofs.Keeps as interrupts
 use Rattle.interrupts.proofs.Laws.{found-cases}
 use Rattle.interrupts.proofs.Targets as targets
 use Rattle.banked.specs.Cell.{cell}
+use Rattle.returns.specs.Return.{badSaved, savedWord, hasSaved, cpsrReturned, pcReturned}
+use Rattle.returns.proofs.After.{word-good, word-fits}
+use Rattle.rules.specs.Event.{RETURN}
 use Rattle.rules.specs.declared.event.Event.{Event}
 use Rattle.rules.specs.Refusal.{unknownMode, notGood, refusal}
-use Rattle.rules.specs.Step.{takenBy, eventWay, interruptWay, checkedIn, doneAction, vaCleared, blockAfter, after}
+use Rattle.rules.specs.Step.{takenBy, eventWay, interruptWay, checkedIn, returned, doneAction, vaCleared, blockAfter, after}
 use Rattle.rules.proofs.Carrying.{va-cases}
 use Rattle.rules.proofs.Deciding.{known-code, by-code}
 use Rattle.rules.proofs.Rows.{Passed, passed}
@@ -158,6 +161,35 @@ module _ (b : List ℕ) (size : length b ≡ BLOCK-SIZE) (by : Bytes b) where
       other : (q : ℕ) → (p ≡ q → ⊥) → word (put b p w) q ≡ word b q
       other = word-put-other b p w
 
+  -- a return puts into CPSR a word that leaves the block good, and PC is not one of the three
+  return-good : (a : ℕ) → fault b ≡ DONE → hasSaved b ≡ true → badSaved (savedWord b) ≡ false
+      → fault (blockAfter b (returned b a)) ≡ DONE
+  unfolding fault
+  return-good a f t c =
+      let saved = spelt-fits b (4 * spsrPlace (mode-field (word b CPSR))) by in
+      let cpsr = cpsrReturned b in
+      let after : word (put b CPSR cpsr) CPSR ≡ cpsr =
+      word-put-same b CPSR cpsr (omega arith) (word-fits (word b CPSR) (word b SCR) (word b HCR) (savedWord b) saved) in
+      let g = word-good (word b CPSR) (word b SCR) (word b HCR) (savedWord b) (goods b f) c in
+      rw (
+        beside CPSR (eqb-false PC CPSR refl),
+        beside SCR (eqb-false PC SCR refl),
+        beside HCR (eqb-false PC HCR refl),
+        after,
+        word-put-other b CPSR cpsr SCR (eqb-false CPSR SCR refl),
+        word-put-other b CPSR cpsr HCR (eqb-false CPSR HCR refl),
+      )
+      (good-by-parts cpsr (word b SCR) (word b HCR) (g .known-mode) (g .clear) (g .standing))
+    where
+      beside : (q : ℕ) → (PC ≡ q → ⊥) → word (blockAfter b (returned b a)) q ≡ word (put b CPSR (cpsrReturned b)) q
+      beside = word-put-other (put b CPSR (cpsrReturned b)) PC (pcReturned b a)
+
+-- a return that no row refuses has a saved word, and a right one
+returns-right : (t bad none : Bool) → t ≡ true → (t && (none && bad)) ≡ false → (t && not none) ≡ false → (none ≡ true) × (bad ≡ false)
+returns-right true bad true e h k = (refl, h)
+returns-right true bad false e h k = absurd (true-is-not-false refl k)
+returns-right false bad none e h k = absurd (true-is-not-false e refl)
+
 clear-fault : (b : List ℕ) → unknownMode b ≡ false → notGood b ≡ false → fault b ≡ DONE
 unfolding fault faultOf
 clear-fault b k g = rw (k, g)
@@ -176,6 +208,9 @@ done-good b code a w bytes size f p =
     register-good b size bytes (cell a) w
     (inside-registers a (write-a a w (rw e at (p .event))) (rw e at (p .register))) f)
     (λ e. clear-fault (put b a w) (rw e at (p .noted-mode)) (rw e at (p .noted-good)))
+    (λ e.
+    let r = returns-right (code is RETURN) (badSaved (savedWord b)) (hasSaved b) (eq-eqb code RETURN e) (p .saved) (p .returns) in
+    return-good b size bytes a f (r .0) (r .1))
     (λ o.
     let y = known-code code a w (p .event) o in
     way-good b size bytes Synchronous (eventWay b code a) f

@@ -32,7 +32,7 @@ use Rattle.banked.specs.Right.{denied, right}
 use Rattle.rules.specs.declared.event.Event.{Event}
 use Rattle.rules.specs.Parts.{Sound}
 use Rattle.rules.specs.Refusal.{rows, refusal}
-use Rattle.rules.specs.Step.{Action, Refuse, Take, Quiet, Read, Put, takenBy, eventWay, interruptWay, checkedIn}
+use Rattle.rules.specs.Step.{Action, Refuse, Take, Quiet, Read, Put, Return, takenBy, eventWay, interruptWay, checkedIn}
 use Rattle.rules.specs.Step.{doneAction, vaCleared, answerTo, blockAfter, action, answer, after}
 use Rattle.rules.specs.Verdict.{value}
 use Rattle.rules.proofs.Carrying.{va-cases}
@@ -63,6 +63,7 @@ module _ (P : List ℕ → Type 0) (kept : (b : List ℕ) (p w : ℕ) → P b �
   action-keeps b (Quiet lines) h = h
   action-keeps b (Read p) h = h
   action-keeps b (Put p w) h = kept b p w h
+  action-keeps b (Return cpsr pc) h = kept _ _ _ (kept _ _ _ h)
 
   pub step-keeps : (b : List ℕ) (e : Event) → P b → P (after b e)
   unfolding after
@@ -128,7 +129,7 @@ done-number b code a w p =
     (λ e.
     found-cases (λ f. answerTo b (checkedIn b a f) .number ≡ DONE) a (word b CPSR) (word b SCR) (word b HCR) refl
     (λ x n t. way-number b x (interruptWay b x) (interrupt-enters x _ _ _ _ n)))
-    (λ e. refl) (λ e. refl) (λ e. refl)
+    (λ e. refl) (λ e. refl) (λ e. refl) (λ e. refl)
     (λ o.
     let y = known-code code a w (p .event) o in
     way-number b Synchronous (eventWay b code a) (enters y (rw y at (p .here)) (rw y at (p .able))))
@@ -177,6 +178,7 @@ value-small b (Take x to offset link) s h =
 value-small b (Quiet lines) s h = lit< tt
 value-small b (Read p) s h = spelt-fits b (4 * p) h
 value-small b (Put p w) s h = lit< tt
+value-small b (Return cpsr pc) s h = lit< tt
 
 pub value-fits : (b : List ℕ) (e : Event) → Bytes b → answer b e .value < 2 ^ 32
 unfolding answer

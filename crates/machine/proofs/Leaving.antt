@@ -12,7 +12,8 @@ use Rattle.state.specs.Field.{SCR-SCD, SCR-HCE}
 use Rattle.state.specs.Number.{DONE}
 use Rattle.state.specs.Place.{BLOCK-SIZE, CPSR, SCR, HCR}
 use Rattle.banked.specs.Cell.{cell}
-use Rattle.rules.specs.Event.{BANKED-READ, BANKED-WRITE, NOTE}
+use Rattle.returns.specs.Return.{pcReturned}
+use Rattle.rules.specs.Event.{BANKED-READ, BANKED-WRITE, NOTE, RETURN}
 use Rattle.entry.specs.Code.{INTERRUPT-CHECK, SMC, HVC, isSynchronous}
 use Rattle.entry.specs.Route as synchronous
 use Rattle.state.proofs.Test.{true-is-not-false}
@@ -21,10 +22,10 @@ use Rattle.rules.proofs.Rows.{passed}
 use Rattle.machine.specs.Claims.{target, offset, link, EntersAsRouted}
 use Rattle.rules.specs.declared.event.Event.{Event}
 use Rattle.rules.specs.Refusal.{refusal}
-use Rattle.rules.specs.Step.{ANSWER-SIZE, Take, doneAction, action, answerTo, blockAfter, answer, after}
+use Rattle.rules.specs.Step.{ANSWER-SIZE, Take, returned, doneAction, action, answerTo, blockAfter, answer, after}
 use Rattle.rules.specs.Step.{numberReturned, blockLeft, answerLeft, answerBytes}
 use Rattle.rules.specs.Verdict.{answerFor, refusedWith}
-use Rattle.rules.specs.declared.verdict.Verdict.the-variants.{Register, Written}
+use Rattle.rules.specs.declared.verdict.Verdict.the-variants.{Register, Written, Returned}
 use Rattle.interrupts.specs.declared.exception.Exception.the-variants.{Synchronous}
 
 -- a refused step: its number, the value 0, and every byte
@@ -68,18 +69,34 @@ module _ (b : List ℕ) (e : Event) (done : refusal b e ≡ DONE) where
   note-tells c = told ∙ rw c
 
   -- a synchronous event that no row refuses goes its way
-  pub enters-as-routed : isSynchronous (e .code) ≡ true → EntersAsRouted b e
+  pub takes-as-routed : isSynchronous (e .code) ≡ true → action b e ≡ Take Synchronous (target b e) (offset b e) (link b e)
   unfolding synchronous.way
-  enters-as-routed y =
+  takes-as-routed y =
       let here : synchronous.notHere (e .code) (e .a) (word b CPSR) (word b SCR) ≡ false = rw y at (passed b e done .here) in
       let able : synchronous.disabled (e .code) (word b CPSR) (word b SCR) (word b HCR) ≡ false = rw y at (passed b e done .able) in
-      let goes = by-code (λ x. x ≡ Take Synchronous (target b e) (offset b e) (link b e)) b (e .code) (e .a) (e .b)
+      done-is
+      ∙ by-code (λ x. x ≡ Take Synchronous (target b e) (offset b e) (link b e)) b (e .code) (e .a) (e .b)
       (λ c. absurd (not-one INTERRUPT-CHECK refl c)) (λ c. absurd (not-one BANKED-READ refl c))
-      (λ c. absurd (not-one BANKED-WRITE refl c)) (λ c. absurd (not-one NOTE refl c)) (λ o. rw (y, here, able)) in
-      record { answers = told ∙ ap (answerTo b) goes; leaves = left ∙ ap (blockAfter b) goes }
+      (λ c. absurd (not-one BANKED-WRITE refl c)) (λ c. absurd (not-one NOTE refl c))
+      (λ c. absurd (not-one RETURN refl c)) (λ o. rw (y, here, able))
     where
       not-one : (k : ℕ) → isSynchronous k ≡ false → e .code ≡ k → ⊥
       not-one k n c = true-is-not-false y (ap isSynchronous c ∙ n)
+
+  pub enters-as-routed : isSynchronous (e .code) ≡ true → EntersAsRouted b e
+  unfolding answer after
+  enters-as-routed y =
+      let goes = takes-as-routed y in
+      record { answers = ap (answerTo b) goes; leaves = ap (blockAfter b) goes }
+
+  -- a return that no row refuses writes CPSR and PC
+  pub returns : e .code ≡ RETURN → action b e ≡ returned b (e .a)
+  unfolding doneAction
+  returns c = done-is ∙ rw c
+
+  pub return-tells : e .code ≡ RETURN → answer b e ≡ answerFor (Returned (pcReturned b (e .a)))
+  unfolding answer
+  return-tells c = ap (answerTo b) (returns c)
 
   -- a call that no row refuses has its bit as asked, or was trapped
   smc-bits : (d t : Bool) → (d && not t || false) ≡ false → (d ≡ false) ⊎ (t ≡ true)

@@ -1,37 +1,44 @@
--- What the step promises beyond its definition, each by name (docs/PROMISES.md): the numbers, what is left, the interrupt
--- check, and what an entry leaves. The words of these statements are in specs/Claims.antt; the proofs stand in their own files.
+-- What the step promises beyond its definition, each by name (docs/PROMISES.md): the numbers, what is left, the return, the
+-- interrupt check, and what an entry leaves. The words of these statements are in specs/Claims.antt and specs/RoundTrip.antt; the
+-- proofs stand in their own files.
 use mathlib.Core.Path.{_≡_, ap, _∙_}
 use mathlib.Core.Bool.{true, false}
-use mathlib.Core.List.{List}
+use mathlib.Core.List.{List, [], _∷_}
 use mathlib.Core.Logic.{_⊎_, _↔_}
-use Prim.Native.Nat.{ℕ}
+use Prim.Native.Nat.{ℕ, _≤_}
 use lib.ListN.{length}
 use Rattle.words.specs.Word.{word, put, Bytes}
 use Rattle.words.proofs.Laws.{word-put-other}
-use Rattle.state.specs.Field.{bits, mode-field, SCR-SCD, SCR-HCE}
+use Rattle.state.specs.Field.{bits, mode-field, SCR-NS, SCR-SCD, SCR-HCE}
 use Rattle.state.specs.Mode.{spsrPlace, lrPlace}
 use Rattle.state.specs.Number.{DONE}
 use Rattle.state.specs.Place.{BLOCK-SIZE, CPSR, PC, SCR, HCR}
-use Rattle.state.specs.State.{fault}
-use Rattle.entry.specs.Code.{SMC, HVC, isSynchronous}
+use Rattle.state.specs.State.{secure, fault}
+use Rattle.entry.specs.Code.{SMC, HVC, isSynchronous, isGeneral}
 use Rattle.entry.specs.Route.{trapped, disabled}
 use Rattle.entry.specs.Enter.{nsCleared, cpsrAfter, controlPlace, vectorBase, vector}
 use Rattle.interrupts.specs.Exception.{order}
 use Rattle.interrupts.specs.Kind.{Kind}
 use Rattle.interrupts.specs.declared.exception.Exception.{Exception}
 use Rattle.banked.specs.Cell.{cell}
-use Rattle.rules.specs.Event.{INTERRUPT-CHECK, BANKED-READ, BANKED-WRITE, NOTE}
+use Rattle.returns.specs.Level.{level}
+use Rattle.returns.specs.Return.{isIllegal, savedWord, cpsrReturned, pcReturned}
+use Rattle.rules.specs.Event.{INTERRUPT-CHECK, BANKED-READ, BANKED-WRITE, NOTE, RETURN}
 use Rattle.rules.specs.Refusal.{rows, refusal}
+use Rattle.rules.specs.Run.{run}
 use Rattle.rules.specs.Step.{ANSWER-SIZE, Take, action, vaCleared, answer, after, answerBytes, numberReturned, blockLeft, answerLeft}
 use Rattle.rules.specs.Verdict.{value, refusedWith}
 use Rattle.rules.specs.declared.event.Event.{Event}
 use Rattle.machine.specs.Claims.{FirstRow, rowsLent, EntersAsRouted, OneOf, TheFirst, CanBeTaken, EntersBy, Takes}
 use Rattle.machine.specs.Claims.{TakesNothing, Decided, scrLeft, hcrLeft}
+use Rattle.machine.specs.RoundTrip.{KeepsMode, back, RoundTrip}
 use Rattle.machine.proofs.Checking as checking
 use Rattle.machine.proofs.Entering as entering
 use Rattle.machine.proofs.Goodness as goodness
 use Rattle.machine.proofs.Leaving as leaving
 use Rattle.machine.proofs.Numbers as numbers
+use Rattle.machine.proofs.Returning.{general-synchronous}
+use Rattle.machine.proofs.Returning as returning
 use Rattle.machine.proofs.Tabled as tabling
 
 -- ---- the step that C calls is the step: over buffers that have their sizes
@@ -109,6 +116,53 @@ trap-first = leaving.trap-first
 
 pub hvc-enabled : (b : List ℕ) (e : Event) → refusal b e ≡ DONE → e .code ≡ HVC → SCR-HCE (word b SCR) ≡ true
 hvc-enabled = leaving.hvc-enabled
+
+-- ---- the return (document 02, No. 9): of a step that no row refuses and whose code is 13
+
+module _ (b : List ℕ) (e : Event) (bytes : Bytes b) (done : refusal b e ≡ DONE) (return : e .code ≡ RETURN) where
+  -- CPSR and PC are as the rules say, the value is 0, and no other word changes
+  pub return-cpsr : word (after b e) CPSR ≡ cpsrReturned b
+  return-cpsr = returning.done-cpsr b e bytes done return
+
+  pub return-pc : word (after b e) PC ≡ pcReturned b (e .a)
+  return-pc = returning.done-pc b e bytes done return
+
+  pub return-tells : answer b e ≡ record { number = DONE; value = 0 }
+  unfolding value
+  return-tells = leaving.return-tells b e done return
+
+  pub return-others : (q : ℕ) → (CPSR ≡ q → ⊥) → (PC ≡ q → ⊥) → word (after b e) q ≡ word b q
+  return-others = returning.done-others b e bytes done return
+
+  -- it is illegal exactly by the list: CPSR is the saved word exactly where no row applies, and where one does the mode stays
+  pub return-exactly : (word (after b e) CPSR ≡ savedWord b)
+      ↔ (isIllegal (word b CPSR) (word b SCR) (word b HCR) (savedWord b) ≡ false)
+  return-exactly = returning.legal-exactly b e bytes done return
+
+  pub return-keeps-mode : isIllegal (word b CPSR) (word b SCR) (word b HCR) (savedWord b) ≡ true
+      → KeepsMode (word b CPSR) (savedWord b) (word (after b e) CPSR)
+  return-keeps-mode = returning.illegal-keeps b e bytes done return
+
+  -- it never raises the Exception level, and never leaves Non-secure for Secure
+  pub return-never-rises : level (mode-field (word (after b e) CPSR)) (SCR-NS (word (after b e) SCR))
+      ≤ level (mode-field (word b CPSR)) (SCR-NS (word b SCR))
+  return-never-rises = returning.never-rises b e bytes done return
+
+  pub return-never-secure : secure (word b CPSR) (word b SCR) ≡ false → secure (word (after b e) CPSR) (word (after b e) SCR) ≡ false
+  return-never-secure = returning.never-secure b e bytes done return
+
+-- behind every synchronous entry from a good block, whatever IT and IL were, the return with the manual's subtraction is done,
+-- restores CPSR, every bit of it, and goes to the preferred return address, aligned by T
+pub round-trip : (b : List ℕ) (e : Event) → Bytes b → refusal b e ≡ DONE → isSynchronous (e .code) ≡ true → RoundTrip b e
+round-trip = returning.round-trip
+
+-- in the words of No. 9: mode and masks, for each of codes 1, 2, 5, 6
+pub round-trip-restores : (b : List ℕ) (e : Event) → Bytes b → refusal b e ≡ DONE → isGeneral (e .code) ≡ true
+    → let w = word (run b (e ∷ back b e ∷ [])) CPSR in
+    (mode-field w ≡ mode-field (word b CPSR)) × (bits 8 6 w ≡ bits 8 6 (word b CPSR))
+round-trip-restores b e bytes done g =
+    let whole = round-trip b e bytes done (general-synchronous (e .code) g) .cpsr in
+    (ap mode-field whole, ap (bits 8 6) whole)
 
 -- ---- demand 2 of the interrupt check: of a step that no row refuses and whose code is 9
 

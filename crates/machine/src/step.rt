@@ -2,7 +2,7 @@
 // event it is, and the event's own function does the rest.
 //
 // `step`, `replay` and `advance` are the same step. There are three because the compiler makes a function that is called from
-// one place part of that place: with one, all twelve events would share a single body, and every step would save and restore
+// one place part of that place: with one, all thirteen events would share a single body, and every step would save and restore
 // the registers of the dearest (docs/DECISIONS.md, "Shape"). `step` is C's, `replay` that of the
 // checker, the explanation and the recorder, `advance` that of a batch. The sizes are tested in the same function for its sake
 // too: behind so many tests the compiler makes no event part of the dispatch.
@@ -72,6 +72,7 @@ pub fn step(block: &mut [u8], code: u32, a: u32, b: u32, buffer: &mut [u8]) -> u
         code::BANKED_READ => access::banked_read(block, cpsr, scr, a, b, buffer),
         code::BANKED_WRITE => access::banked_write(block, cpsr, scr, a, b, buffer),
         code::NOTE => access::note(block, cpsr, scr, a, b, buffer),
+        code::RETURN => exception_return::exception_return(block, cpsr, scr, a, b, buffer),
         _ => refuse(buffer, number::BAD_EVENT),
     }
 }
@@ -115,6 +116,7 @@ pub fn replay(block: &mut [u8], code: u32, a: u32, b: u32, buffer: &mut [u8]) ->
         code::BANKED_READ => access::banked_read(block, cpsr, scr, a, b, buffer),
         code::BANKED_WRITE => access::banked_write(block, cpsr, scr, a, b, buffer),
         code::NOTE => access::note(block, cpsr, scr, a, b, buffer),
+        code::RETURN => exception_return::exception_return(block, cpsr, scr, a, b, buffer),
         _ => refuse(buffer, number::BAD_EVENT),
     }
 }
@@ -163,6 +165,7 @@ fn advance_sized(block: &mut [u8], code: u32, a: u32, b: u32, buffer: &mut [u8])
         code::BANKED_READ => access::banked_read(block, cpsr, scr, a, b, buffer),
         code::BANKED_WRITE => access::banked_write(block, cpsr, scr, a, b, buffer),
         code::NOTE => access::note(block, cpsr, scr, a, b, buffer),
+        code::RETURN => exception_return::exception_return(block, cpsr, scr, a, b, buffer),
         _ => refuse(buffer, number::BAD_EVENT),
     }
 }

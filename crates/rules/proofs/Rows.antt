@@ -14,16 +14,20 @@ use Rattle.entry.specs.Code.{isSynchronous}
 use Rattle.entry.specs.Route.{notHere, disabled}
 use Rattle.banked.specs.Cell.{cell}
 use Rattle.banked.specs.Right.{right}
-use Rattle.rules.specs.Event.{Event, NOTE, isBanked, badEvent}
-use Rattle.rules.specs.Refusal.{unknownMode, notGood, noted, refusal}
+use Rattle.returns.specs.Return.{wrongA, hasSaved}
+use Rattle.rules.specs.Event.{Event, NOTE, RETURN, isBanked, badEvent}
+use Rattle.rules.specs.Refusal.{unknownMode, notGood, noted, badReturn, refusal}
 
 -- no row applies
 pub record Passed (b : List ℕ) (e : Event) : Type 0 where
   pub sized : not (length b is BLOCK-SIZE) ≡ false
   pub mode : unknownMode b ≡ false
   pub good : notGood b ≡ false
+  pub saved : (e .code is RETURN && badReturn b) ≡ false
   pub event : badEvent (e .code) (e .a) (e .b) ≡ false
+  pub off : (e .code is RETURN && wrongA (word b CPSR) (e .a)) ≡ false
   pub here : (isSynchronous (e .code) && notHere (e .code) (e .a) (word b CPSR) (word b SCR)) ≡ false
+  pub returns : (e .code is RETURN && not (hasSaved b)) ≡ false
   pub able : (isSynchronous (e .code) && disabled (e .code) (word b CPSR) (word b SCR) (word b HCR)) ≡ false
   pub register : (isBanked (e .code) && cell (e .a) is NO-PLACE) ≡ false
   pub right : (isBanked (e .code) && not (right (cell (e .a)) (word b CPSR) (word b SCR) is DONE)) ≡ false
@@ -46,9 +50,12 @@ passed b e h =
     let p1 = past _ (never 1 refl) h in
     let p2 = past _ (never 2 refl) (p1 .1) in
     let p3 = past _ (never 3 refl) (p2 .1) in
-    let p4 = past _ (never 4 refl) (p3 .1) in
-    let p5 = past _ (never 5 refl) (p4 .1) in
-    let p16 = past _ (never 16 refl) (p5 .1) in
+    let r3 = past _ (never 3 refl) (p3 .1) in
+    let p4 = past _ (never 4 refl) (r3 .1) in
+    let r4 = past _ (never 4 refl) (p4 .1) in
+    let p5 = past _ (never 5 refl) (r4 .1) in
+    let r5 = past _ (never 5 refl) (p5 .1) in
+    let p16 = past _ (never 16 refl) (r5 .1) in
     let p6 = past _ (never 6 refl) (p16 .1) in
     let p7 = past _ denied (p6 .1) in
     let p8 = past _ (never 2 refl) (p7 .1) in
@@ -57,8 +64,11 @@ passed b e h =
       sized = p1 .0;
       mode = p2 .0;
       good = p3 .0;
+      saved = r3 .0;
       event = p4 .0;
+      off = r4 .0;
       here = p5 .0;
+      returns = r5 .0;
       able = p16 .0;
       register = p6 .0;
       right = p7 .0;

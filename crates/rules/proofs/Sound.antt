@@ -118,6 +118,7 @@ done-sound b code a w p =
     (λ e. inside a (read-a a w (rw e at (p .event))) (rw e at (p .register)))
     (λ e. inside a (write-a a w (rw e at (p .event))) (rw e at (p .register)))
     (λ e. note-a a w (rw e at (p .event)))
+    (λ e. tt)
     (λ o.
     taken-sound Synchronous (eventWay b code a)
     (synchronous-sound code a (word b CPSR) (word b SCR) (word b HCR) (word b PC)))

@@ -6,7 +6,7 @@ use lib.Dec.{leb}
 use Rattle.state.specs.Choice.{if_then_else_, _is_, _among_}
 use Rattle.state.specs.Place.{PLACES}
 use Rattle.entry.specs.Code.{isAbort}
-pub use Rattle.entry.specs.Code.{INTERRUPT-CHECK, BANKED-READ, BANKED-WRITE, NOTE, isKnown}
+pub use Rattle.entry.specs.Code.{INTERRUPT-CHECK, BANKED-READ, BANKED-WRITE, NOTE, RETURN, isKnown}
 pub use Rattle.banked.specs.Cell.{CELL-VALUES}
 pub use Rattle.rules.specs.declared.event.Event.{Event}
 
@@ -15,7 +15,7 @@ abbrev pub isBanked : ℕ → Bool
 isBanked code = code among (BANKED-READ ∷ BANKED-WRITE ∷ [])
 
 -- how many values A may have, counted from 0: one where it must be 0, the two bits of an abort, the five lines of a check, the
--- cells of a banked access, the places of a note
+-- cells of a banked access, the places of a note, and what a return takes off, 0 to 8, of which its own row takes some out
 abbrev pub ZERO-ONLY : ℕ
 ZERO-ONLY = 1
 
@@ -25,6 +25,9 @@ ABORT-VALUES = 4
 abbrev pub LINE-VALUES : ℕ
 LINE-VALUES = 32
 
+abbrev pub OFF-VALUES : ℕ
+OFF-VALUES = 9
+
 -- "A and B must be 0 where not named"
 abbrev pub valuesOfA : ℕ → ℕ
 valuesOfA code =
@@ -32,6 +35,7 @@ valuesOfA code =
     if code is INTERRUPT-CHECK then LINE-VALUES else
     if isBanked code then CELL-VALUES else
     if code is NOTE then PLACES else
+    if code is RETURN then OFF-VALUES else
     ZERO-ONLY
 
 -- "B the new word"

@@ -12,8 +12,8 @@ use Rattle.state.specs.Number.{DONE}
 use Rattle.state.specs.Place.{PLACES, BLOCK-SIZE, CPSR, SCR}
 use Rattle.state.specs.State.{fault}
 use Rattle.entry.specs.Offset.{PREFETCH-ABORT}
-use Rattle.rules.specs.Step.{ANSWER-SIZE, Action, Refuse, Take, Quiet, Read, Put, answerTo, blockAfter, answerBytes}
-use Rattle.rules.specs.Verdict.{Answer, Verdict, Entry, NothingTaken, Register, Written}
+use Rattle.rules.specs.Step.{ANSWER-SIZE, Action, Refuse, Take, Quiet, Read, Put, Return, answerTo, blockAfter, answerBytes}
+use Rattle.rules.specs.Verdict.{Answer, Verdict, Entry, NothingTaken, Register, Written, Returned}
 
 -- a block and an answer buffer that have their sizes, and two words of the block, read before
 abbrev pub Lent : List ℕ → List ℕ → ℕ → ℕ → Type 0
@@ -47,6 +47,7 @@ Sound (Take x to offset link) = (isTarget to ≡ true) × (offset < 32) × (link
 Sound (Quiet lines) = Unit {0}
 Sound (Read p) = p < PLACES
 Sound (Put p w) = p < PLACES
+Sound (Return cpsr pc) = Unit {0}
 
 -- the same of a verdict
 abbrev pub Small : Verdict → Type 0
@@ -54,3 +55,4 @@ Small (Entry x mode offset) = (mode .number < 32) × (offset < 32)
 Small (NothingTaken lines) = Unit {0}
 Small (Register w) = Unit {0}
 Small (Written w) = Unit {0}
+Small (Returned pc) = Unit {0}

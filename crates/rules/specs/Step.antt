@@ -18,10 +18,11 @@ use Rattle.interrupts.specs.declared.exception.Exception.the-variants.{VirtualS
 use Rattle.interrupts.specs.declared.check.Found.{Found}
 use Rattle.interrupts.specs.declared.check.Found.the-variants.{Nothing, First}
 use Rattle.banked.specs.Cell.{cell}
-use Rattle.rules.specs.Event.{Event, INTERRUPT-CHECK, BANKED-READ, BANKED-WRITE, NOTE}
+use Rattle.returns.specs.Return.{cpsrReturned, pcReturned}
+use Rattle.rules.specs.Event.{Event, INTERRUPT-CHECK, BANKED-READ, BANKED-WRITE, NOTE, RETURN}
 use Rattle.rules.specs.Refusal.{refusal}
-use Rattle.rules.specs.Verdict.{Answer, NothingTaken, Register, Written, entryTo, answerFor, refusedWith}
-pub use Rattle.rules.specs.Action.{Action, Refuse, Take, Quiet, Read, Put}
+use Rattle.rules.specs.Verdict.{Answer, NothingTaken, Register, Written, Returned, entryTo, answerFor, refusedWith}
+pub use Rattle.rules.specs.Action.{Action, Refuse, Take, Quiet, Read, Put, Return}
 
 -- the bytes of an answer buffer
 abbrev pub ANSWER-SIZE : ℕ
@@ -50,6 +51,10 @@ foundIn b lines = interrupt.found lines (word b CPSR) (word b SCR) (word b HCR)
 abbrev pub checkedIn : List ℕ → ℕ → Found → Action
 checkedIn b lines = checked lines (word b CPSR) (word b SCR) (word b HCR) (word b PC)
 
+-- a return that takes A off its address
+abbrev pub returned : List ℕ → ℕ → Action
+returned b a = Return (cpsrReturned b) (pcReturned b a)
+
 -- the rules of a done step, by its code
 unfoldable pub doneAction : List ℕ → Event → Action
 doneAction b e =
@@ -57,6 +62,7 @@ doneAction b e =
     if e .code is BANKED-READ then Read (cell (e .a)) else
     if e .code is BANKED-WRITE then Put (cell (e .a)) (e .b) else
     if e .code is NOTE then Put (e .a) (e .b) else
+    if e .code is RETURN then returned b (e .a) else
     takenBy Synchronous (eventWay b (e .code) (e .a))
 
 -- what an event comes to: the refusals first
@@ -80,6 +86,7 @@ answerTo b (Take x to offset link) = answerFor (entryTo x to offset)
 answerTo b (Quiet lines) = answerFor (NothingTaken lines)
 answerTo b (Read p) = answerFor (Register (word b p))
 answerTo b (Put p w) = answerFor (Written w)
+answerTo b (Return cpsr pc) = answerFor (Returned pc)
 
 -- the block after each
 abbrev pub blockAfter : List ℕ → Action → List ℕ
@@ -88,6 +95,7 @@ blockAfter b (Take x to offset link) = entered (vaCleared b x) to offset link
 blockAfter b (Quiet lines) = b
 blockAfter b (Read p) = b
 blockAfter b (Put p w) = put b p w
+blockAfter b (Return cpsr pc) = put (put b CPSR cpsr) PC pc
 
 -- one step
 unfoldable pub answer : List ℕ → Event → Answer

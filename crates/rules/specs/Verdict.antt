@@ -6,15 +6,16 @@ use Rattle.interrupts.specs.Exception.{which}
 use Rattle.interrupts.specs.declared.exception.Exception.{Exception}
 pub use Rattle.rules.specs.declared.verdict.Answer.{Answer}
 pub use Rattle.rules.specs.declared.verdict.Verdict.{Verdict}
-pub use Rattle.rules.specs.declared.verdict.Verdict.the-variants.{Entry, NothingTaken, Register, Written}
+pub use Rattle.rules.specs.declared.verdict.Verdict.the-variants.{Entry, NothingTaken, Register, Written, Returned}
 
 -- "entry: which·65536 + mode·256 + offset, with which 0 for codes 1-8; nothing taken: 0; a read: the word; a write or
--- note: 0"
+-- note: 0"; "A done return has value 0" (document 02, No. 9)
 unfoldable pub value : Verdict → ℕ
 value (Entry x mode offset) = which x * 65536 + mode .number * 256 + offset
 value (NothingTaken lines) = 0
 value (Register w) = w
 value (Written w) = 0
+value (Returned pc) = 0
 
 -- an entry to the mode of this number
 abbrev pub entryTo : Exception → ℕ → ℕ → Verdict

@@ -30,6 +30,7 @@ fn value_of(v: Verdict) -> u32
         Verdict::NothingTaken(_) => 0,
         Verdict::Register(w) => w,
         Verdict::Written(_) => 0,
+        Verdict::Returned(_) => 0,
     }
 }
 

@@ -21,4 +21,6 @@ pub enum Verdict {
     Register(u32),
     // A word written.
     Written(u32),
+    // A return, to this address.
+    Returned(u32),
 }

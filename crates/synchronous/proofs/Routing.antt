@@ -20,7 +20,7 @@ use Rattle.entry.specs.Parts.{generalToHyp, abortWay}
 use Rattle.entry.specs.Route.{wrap, offsetTo, way}
 use Rattle.entry.specs.Way.{Way, Barred, Enter}
 use Rattle.interrupts.specs.declared.exception.Exception.the-variants.{Synchronous}
-use Rattle.rules.specs.Event.{BANKED-WRITE, NOTE, valuesOfA, badEvent}
+use Rattle.rules.specs.Event.{BANKED-WRITE, NOTE, RETURN, valuesOfA, badEvent}
 use Rattle.rules.specs.Parts.{Lent, Ready, Told, Carried, abortMore}
 use Rattle.rules.specs.Step.{Action, Take, takenBy, action}
 use Rattle.rules.specs.Verdict.{refusedWith}
@@ -49,7 +49,7 @@ pub beyond-range : (code : ℕ) → isSynchronous code ≡ true → (b : List �
     → length b ≡ BLOCK-SIZE → fault b ≡ DONE → r ≡ (leb (valuesOfA code) a || not (w is 0)) → r ≡ true
     → Told (refusedWith BAD-EVENT) n m → Carried b (action b (event code a w)) n b m
 beyond-range code k b a w size good e h t =
-    refused b BAD-EVENT (bad-event b a w size good code (operands code a w k ∙ sym e ∙ h)) t
+    refused b BAD-EVENT (bad-event b a w size good code (other code k RETURN refl) (operands code a w k ∙ sym e ∙ h)) t
 
 -- they are in their range, on a good block that is lent with two of its words
 pub record Asked (code : ℕ) (b m : List ℕ) (cpsr scr a w : ℕ) : Type 0 where

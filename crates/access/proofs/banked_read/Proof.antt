@@ -47,7 +47,7 @@ returns c =
     let answered = c .before .before in
     let test = answered .before .before in
     let s = given (test .before) in
-    malformed (s .args .block .now) BANKED-READ (s .args .a) (s .args .b) (s .pre .0 .0) (s .pre .1) (test .before .beyond .ensures)
+    malformed (s .args .block .now) BANKED-READ (s .args .a) (s .args .b) (s .pre .0 .0) (s .pre .1) refl (test .before .beyond .ensures)
     (test .if1 .taken) (answered .refuse .ensures)
 
 returns-2 : tie.Need-returns-2

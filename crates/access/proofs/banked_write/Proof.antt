@@ -1,4 +1,5 @@
 -- The operands, whether the access is denied, and then the access itself.
+use mathlib.Core.Path.{refl}
 use Prim.Native.Nat.{_+_, _*_, _≤_}
 use lib.ListN.{length}
 use Rattle.banked.specs.Cell.{cell}
@@ -49,7 +50,7 @@ returns c =
     let answered = c .before .before in
     let test = answered .before .before in
     let s = given (test .before) in
-    malformed (s .args .block .now) BANKED-WRITE (s .args .a) (s .args .b) (s .pre .0 .0) (s .pre .1) (test .before .beyond .ensures)
+    malformed (s .args .block .now) BANKED-WRITE (s .args .a) (s .args .b) (s .pre .0 .0) (s .pre .1) refl (test .before .beyond .ensures)
     (test .if1 .taken) (answered .refuse .ensures)
 
 returns-2 : tie.Need-returns-2

@@ -1,5 +1,5 @@
 -- By the place of the note: the words that say whether a block is good are judged as it would leave them.
-use mathlib.Core.Path.{_≡_, _∙_}
+use mathlib.Core.Path.{_≡_, refl, _∙_}
 use mathlib.Core.Bool.{false}
 use lib.Dec.{lit<}
 use Rattle.access.proofs.Access.{word-inside, malformed}
@@ -61,7 +61,7 @@ returns c =
     let answered = c .before .before in
     let test = answered .before .before in
     let s = given (test .before) in
-    malformed (s .args .block .now) NOTE (s .args .a) (s .args .b) (s .pre .0 .0) (s .pre .1) (test .before .beyond .ensures)
+    malformed (s .args .block .now) NOTE (s .args .a) (s .args .b) (s .pre .0 .0) (s .pre .1) refl (test .before .beyond .ensures)
     (test .if1 .taken) (answered .refuse .ensures)
 
 returns-2 : tie.Need-returns-2

@@ -51,7 +51,7 @@ returns c =
     let test = answered .before .before in
     let start = given (test .before) in
     refused (start .args .block .now) BAD-EVENT
-    (bad-event _ _ _ (start .pre .0 .0) (start .pre .1) INTERRUPT-CHECK (told (test .before .beyond .ensures) (test .if1 .taken)))
+    (bad-event _ _ _ (start .pre .0 .0) (start .pre .1) INTERRUPT-CHECK refl (told (test .before .beyond .ensures) (test .if1 .taken)))
     (answered .refuse .ensures)
 
 returns-2 : tie.Need-returns-2

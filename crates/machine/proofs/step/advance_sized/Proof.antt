@@ -41,7 +41,7 @@ faulty c =
     let lent = start (found .before) .pre in
     refused _ _ (by-fault _ _ (lent .0) (judged (found .before)) (found .if1 .taken)) (c .before .before .refuse .ensures)
 
-unknown : tie.Need-returns-14
+unknown : tie.Need-returns-15
 unknown c =
     let n = c .before .before .before .before .match .rest in
     let at = c .before .before .before .before .before in
@@ -61,6 +61,7 @@ advance-sized-spec =
     (λ c. search needs)
     faulty
     -- what each event asks for, and what the refusal of an unknown code does
+    (λ c κs. ready (c .before .before .before))
     (λ c κs. ready (c .before .before .before))
     (λ c κs. ready (c .before .before .before))
     (λ c κs. ready (c .before .before .before))
@@ -135,6 +136,11 @@ advance-sized-spec =
     (λ c.
     let at = c .before .before .before .before in
     arm _ _ _ (at .before .before .before .match .keys12) (at .note .ensures))
+    (λ c. search needs)
+    (λ c. search needs)
+    (λ c.
+    let at = c .before .before .before .before in
+    arm _ _ _ (at .before .before .before .match .keys13) (at .exception-return .ensures))
     (λ c. search needs)
     (λ c. search needs)
     unknown)

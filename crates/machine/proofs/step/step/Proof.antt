@@ -69,7 +69,7 @@ faulty c =
     stepped test
     (refused _ _ (by-fault _ _ (block-size test) (judged (found .before)) (found .if3 .taken)) (c .before .before .refuse .ensures))
 
-unknown : tie.Need-returns-16
+unknown : tie.Need-returns-17
 unknown c =
     let last = c .before .before .before .before in
     let at = last .before in
@@ -93,6 +93,7 @@ step-spec =
     (λ c. search needs)
     faulty
     -- what each event asks for, and what the refusal of an unknown code does
+    (λ c κs. ready (c .before .before .before))
     (λ c κs. ready (c .before .before .before))
     (λ c κs. ready (c .before .before .before))
     (λ c κs. ready (c .before .before .before))
@@ -179,6 +180,12 @@ step-spec =
     let at = c .before .before .before .before in
     let m = at .before .before .before in
     stepped (sized (m .before .before)) (arm _ _ _ (m .match .keys12) (at .note .ensures)))
+    (λ c. search needs)
+    (λ c. search needs)
+    (λ c.
+    let at = c .before .before .before .before in
+    let m = at .before .before .before in
+    stepped (sized (m .before .before)) (arm _ _ _ (m .match .keys13) (at .exception-return .ensures)))
     (λ c. search needs)
     (λ c. search needs)
     unknown)

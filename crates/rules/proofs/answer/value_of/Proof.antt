@@ -48,6 +48,10 @@ returns-4 : tie.Need-returns-4
 unfolding value
 returns-4 c = sym (ap value (c .enum-told2 .given .1))
 
+returns-5 : tie.Need-returns-5
+unfolding value
+returns-5 c = sym (ap value (c .enum-told3 .given .1))
+
 pub value-of-spec : {M : Type 1} → statement M
 value-of-spec =
     tie.close
@@ -61,7 +65,9 @@ value-of-spec =
     enum-told
     (λ c. search needs)
     (λ c. search needs)
+    (λ c. search needs)
     returns
     returns-2
     returns-3
-    returns-4)
+    returns-4
+    returns-5)

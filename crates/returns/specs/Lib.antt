@@ -1,0 +1,4 @@
+pub mod Level
+pub mod Illegal
+pub mod Return
+pub mod Parts
