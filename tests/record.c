@@ -46,7 +46,8 @@ static const struct pomurica_event MIXED[] = {
     { POMURICA_EVENT_HVC, 0, 0 },                                         /* enters Hyp */
     { POMURICA_EVENT_HYP_TRAP, 0, 0 },                                    /* NOT_HERE */
     { POMURICA_EVENT_BANKED_READ, 7, 0 },                                 /* NO_REGISTER */
-    { POMURICA_EVENT_BANKED_READ, 62, 0 },                                /* NO_RIGHT */
+    { POMURICA_EVENT_BANKED_READ, 62, 0 },                                /* OWN_REGISTER */
+    { POMURICA_EVENT_BANKED_READ, 29, 0 },                                /* NO_RIGHT */
     { POMURICA_EVENT_NOTE, POMURICA_PLACE_SCR, POMURICA_SCR_NS },
     { POMURICA_EVENT_NOTE, POMURICA_PLACE_CPSR, POMURICA_MODE_SUPERVISOR }, /* and again from there */
 };
