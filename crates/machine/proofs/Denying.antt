@@ -122,12 +122,13 @@ module _ (b : List ℕ) (e : Event) where
 
   pub own-exactly : (refusal b e ≡ OWN-REGISTER) ↔ (Accesses b e × ((mode is USER) ≡ false) × (own (cell (e .a)) mode ≡ true))
   own-exactly =
-      let on-list = reasons.own-exactly (cell (e .a)) (word b CPSR) (word b SCR) in
-      (λ h.
-      let x = denied-accesses OWN-REGISTER refl h in
-      let k = on-list .0 (sym (access-answers x) ∙ h) in
-      (x, k .0, k .1),
-      λ h. access-answers (h .0) ∙ on-list .1 (h .1, h .2))
+      let on-list = reasons.own-exactly (cell (e .a)) (word b CPSR) (word b SCR) in (
+        λ h.
+            let x = denied-accesses OWN-REGISTER refl h in
+            let k = on-list .0 (sym (access-answers x) ∙ h) in
+            (x, k .0, k .1),
+        λ h. access-answers (h .0) ∙ on-list .1 (h .1, h .2),
+      )
 
   pub from-user : Accesses b e → (mode is USER) ≡ true → refusal b e ≡ NO-RIGHT
   from-user x h = access-answers x ∙ reasons.user-seven (cell (e .a)) (word b CPSR) (word b SCR) h
