@@ -226,7 +226,7 @@ static const uint8_t *step_of(const struct recording *asked, size_t i)
 /* Each event of the mix answers what its comment says; those behind a refused one are done as if it were not there. */
 static void do_mixed(void)
 {
-    static const uint32_t NUMBERS[] = { 0, 0, 4, 4, 0, 2, 3, 0, 0, 0, 4, 0, 0, 16, 0, 16, 0, 5, 6, 7, 0, 0 };
+    static const uint32_t NUMBERS[] = { 0, 0, 4, 4, 0, 2, 3, 0, 0, 0, 4, 0, 0, 16, 0, 16, 0, 5, 6, 17, 7, 0, 0 };
     const struct recording asked = recording_of(COUNT(MIXED), 1, 1);
 
     _Static_assert(COUNT(NUMBERS) == COUNT(MIXED), "a number for each event");
