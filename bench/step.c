@@ -286,12 +286,33 @@ static const uint32_t DENIED[33] = {
     [32] = BOTH(BUT(MONITOR)),
 };
 
+/* By place: the modes that reach the register by another instruction; User, which has no right, is left out. */
+static const uint32_t OWNERS[33] = {
+    [0 ... 4] = BUT(ONLY(POMURICA_MODE_FIQ) | USER),
+    [5] = ONLY(POMURICA_MODE_SYSTEM),
+    [6] = ONLY(POMURICA_MODE_SYSTEM) | HYP,
+    [7 ... 13] = ONLY(POMURICA_MODE_FIQ),
+    [14 ... 15] = ONLY(POMURICA_MODE_IRQ),
+    [16 ... 17] = ONLY(POMURICA_MODE_SUPERVISOR),
+    [18 ... 19] = ONLY(POMURICA_MODE_ABORT),
+    [20 ... 21] = ONLY(POMURICA_MODE_UNDEFINED),
+    [22 ... 23] = MONITOR,
+    [25] = HYP,
+    [26] = ONLY(POMURICA_MODE_FIQ),
+    [27] = ONLY(POMURICA_MODE_IRQ),
+    [28] = ONLY(POMURICA_MODE_SUPERVISOR),
+    [29] = ONLY(POMURICA_MODE_ABORT),
+    [30] = ONLY(POMURICA_MODE_UNDEFINED),
+    [31] = MONITOR,
+    [32] = HYP,
+};
+
 ALWAYS_INLINE uint32_t right_to(const struct state *state, uint32_t place)
 {
     if (place == NONE)
         return POMURICA_NO_REGISTER;
     if (DENIED[place] >> ((state->mode & 15) | state->ns << 4) & 1)
-        return POMURICA_NO_RIGHT;
+        return OWNERS[place] >> state->mode & 1 ? POMURICA_OWN_REGISTER : POMURICA_NO_RIGHT;
     return POMURICA_DONE;
 }
 

@@ -424,6 +424,12 @@ static const char *why_refused(const uint8_t *step, uint32_t number)
         return why_disabled(step);
     if (number == POMURICA_BAD_STATE && is_saved_word_bad(step))
         return "bits 24-21 of the saved word are not 0";
+    if (number == POMURICA_OWN_REGISTER)
+        return "its own register, reached by another instruction";
+    if (number == POMURICA_NO_RIGHT && mode_of(block_before(step)) == POMURICA_MODE_USER)
+        return "no banked register is accessible from User";
+    if (number == POMURICA_NO_RIGHT)
+        return "not accessible from this mode and state";
     return NULL;
 }
 

@@ -47,7 +47,7 @@ void tell_state(FILE *out, const uint8_t *block);
  * What an answer says came of the event of a Step: "enters IRQ mode at 0x18".
  * Of a call that is disabled with the reason, by the block before the Step:
  * "refused with 16 DISABLED (HVC is disabled: SCR.HCE is 0)"; and so of a return
- * that its saved word refuses.  Of a return that is done with what the rules make
+ * that its saved word refuses, and of an access that is denied.  Of a return that is done with what the rules make
  * of it, by that block too: "returns to Non-secure User at 0x00008004", "illegal
  * return (Hyp is above Exception level 1): stays in Non-secure Supervisor, IL
  * becomes 1, goes on at 0x00008004".

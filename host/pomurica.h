@@ -94,9 +94,9 @@ enum pomurica_record_word {
     (POMURICA_START_SIZE + (size_t)(n) * POMURICA_STEP_SIZE + POMURICA_END_SIZE)
 
 /*
- * Answer numbers: 0 to 7 and 16 of a step; 0, 1 and 8 to 12 of the checker, of
- * an explanation and of a closing, and with 13 of a count; 0, 9 to 12 and 14 of
- * a feeding; 0, 1 and 15 of the lines of counts; 0, 1, 10 and 15 of a
+ * Answer numbers: 0 to 7, 16 and 17 of a step; 0, 1 and 8 to 12 of the checker,
+ * of an explanation and of a closing, and with 13 of a count; 0, 9 to 12 and 14
+ * of a feeding; 0, 1 and 15 of the lines of counts; 0, 1, 10 and 15 of a
  * recording; 0 and 1 of a batch; 0 of an opening.  (Of a session that was
  * opened: in another one any number may stand as its fault.)
  */
@@ -108,7 +108,7 @@ enum pomurica_number {
     POMURICA_BAD_EVENT = 4,   /* unknown code, or an operand out of its range */
     POMURICA_NOT_HERE = 5,    /* the event cannot happen in this mode and state, as a return in User or System */
     POMURICA_NO_REGISTER = 6, /* banked access: no register has this number */
-    POMURICA_NO_RIGHT = 7,    /* banked access: not allowed from this mode and state */
+    POMURICA_NO_RIGHT = 7,    /* banked access: from User, or to a register that is not accessible from this mode and state */
     POMURICA_SHORT = 8,       /* the trace ends before the record due */
     POMURICA_BAD_RECORD = 9,  /* length or kind not of the record due */
     POMURICA_BAD_COUNT = 10,  /* more than 65,535 Steps, or Start and End differ */
@@ -117,7 +117,8 @@ enum pomurica_number {
     POMURICA_FULL = 13,       /* counting: a count would pass 4,294,967,295; nothing was counted */
     POMURICA_CLOSED = 14,     /* feeding: the session was closed before; nothing was changed */
     POMURICA_NO_ROOM = 15,    /* the room is too small for what is to be written; nothing was written */
-    POMURICA_DISABLED = 16    /* SMC with SCR.SCD 1, HVC with SCR.HCE 0: on the core Undefined, code 1 */
+    POMURICA_DISABLED = 16,   /* SMC with SCR.SCD 1, HVC with SCR.HCE 0: on the core Undefined, code 1 */
+    POMURICA_OWN_REGISTER = 17 /* banked access: to the mode's own register, which it reaches by another instruction */
 };
 
 /*
@@ -568,6 +569,7 @@ static inline const char *pomurica_number_name(uint32_t number)
     case POMURICA_CLOSED: return "CLOSED";
     case POMURICA_NO_ROOM: return "NO_ROOM";
     case POMURICA_DISABLED: return "DISABLED";
+    case POMURICA_OWN_REGISTER: return "OWN_REGISTER";
     default: return "UNKNOWN";
     }
 }

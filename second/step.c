@@ -1,7 +1,7 @@
 /*
- * The step, in the order of document 01, with No. 5, No. 8 and No. 9 of document
- * 02.  The block's bytes are read into words once, every rule speaks of words,
- * and they go back as bytes only when the step is DONE.
+ * The step, in the order of document 01, with No. 5, No. 8, No. 9 and No. 10 of
+ * document 02.  The block's bytes are read into words once, every rule speaks of
+ * words, and they go back as bytes only when the step is DONE.
  */
 #include "second.h"
 #include "words.h"
@@ -56,6 +56,7 @@ static uint32_t mode_of(const struct block *block)
                    ONLY(MODE_ABORT) | ONLY(MODE_UNDEFINED) | ONLY(MODE_SYSTEM))
 #define ALL_NINE (ONLY(MODE_USER) | ONLY(MODE_MONITOR) | ONLY(MODE_HYP) | EL1_MODES)
 #define ALL_BUT(modes) (ALL_NINE & ~(modes))
+#define NO_MODE UINT32_C(0)
 
 /* The state block: whether a mode number (0 to 31) is in a set of modes. */
 static bool is_in(uint32_t mode, uint32_t modes)
@@ -150,9 +151,9 @@ static bool is_banked(const struct event *event)
 /* Routing, below: whether an SMC goes to Hyp. */
 static bool is_smc_trapped(const struct block *block);
 
-/* Banked-register rights, below: the register of A, and the right to it. */
+/* Banked-register rights, below: the register of A, and whether it is denied with a number. */
 static uint32_t register_of(const struct event *event);
-static bool is_allowed(const struct block *block, uint32_t place);
+static bool is_denied(const struct block *block, uint32_t place, enum number number);
 
 /* The return, below: the saved word, if the mode has one, and the A that may be taken off its LR. */
 static bool has_saved_word(const struct block *block);
@@ -212,10 +213,10 @@ static bool has_no_register(const struct event *event)
     return is_banked(event) && register_of(event) == NONE;
 }
 
-/* Answer numbers: row 7, asked once row 6 does not apply. */
+/* Answer numbers: row 7, asked once row 6 does not apply; No. 10: "7 stays for User mode and for registers not accessible". */
 static bool has_no_right(const struct block *block, const struct event *event)
 {
-    return is_banked(event) && !is_allowed(block, register_of(event));
+    return is_banked(event) && is_denied(block, register_of(event), NO_RIGHT);
 }
 
 /*
@@ -231,7 +232,13 @@ static bool is_disabled(const struct block *block, const struct event *event)
     return false;
 }
 
-/* Answer numbers: "The lowest number that applies wins"; No. 8: "NOT_HERE goes before it". */
+/* No. 10: "17 OWN_REGISTER", asked once row 6 does not apply. */
+static bool is_own_register(const struct block *block, const struct event *event)
+{
+    return is_banked(event) && is_denied(block, register_of(event), OWN_REGISTER);
+}
+
+/* Answer numbers: "The lowest number that applies wins"; No. 8: "NOT_HERE goes before it"; No. 10: "if both fit, 7". */
 static enum number refusal_of(const struct block *block, const struct event *event)
 {
     const enum number number = refusal_of_block(block);
@@ -250,6 +257,8 @@ static enum number refusal_of(const struct block *block, const struct event *eve
         return NO_RIGHT;
     if (is_disabled(block, event))
         return DISABLED;
+    if (is_own_register(block, event))
+        return OWN_REGISTER;
     return DONE;
 }
 
@@ -720,48 +729,58 @@ static uint32_t register_of(const struct event *event)
     return r == 0 ? TABLE_F5_116[row][column] : TABLE_F5_117[row][column];
 }
 
-/* Banked-register rights: "Allowed unless". */
+/*
+ * Banked-register rights: "Allowed unless"; No. 10: 7 "for User mode and for registers not accessible from the current state",
+ * 17 where "the current mode could reach the register by another instruction".  Hyp is allowed ELR_hyp, which is never 17.
+ */
 static const struct {
     enum place first, last; /* the registers at these places */
     uint32_t modes;         /* not from these modes */
     bool non_secure;        /* nor from Non-secure, if true */
+    enum number number;     /* but with this number */
 } NOT_ALLOWED[] = {
-    { R8_usr,   SPSR_hyp, ONLY(MODE_USER),                              false },
-    { R8_usr,   R12_usr,  ALL_BUT(ONLY(MODE_FIQ)),                      false },
-    { SP_usr,   SP_usr,   ONLY(MODE_SYSTEM),                            false },
-    { LR_usr,   LR_usr,   ONLY(MODE_SYSTEM) | ONLY(MODE_HYP),           false },
-    { R8_fiq,   LR_fiq,   ONLY(MODE_FIQ),                               false },
-    { SPSR_fiq, SPSR_fiq, ONLY(MODE_FIQ),                               false },
-    { LR_irq,   SP_irq,   ONLY(MODE_IRQ),                               false },
-    { SPSR_irq, SPSR_irq, ONLY(MODE_IRQ),                               false },
-    { LR_svc,   SP_svc,   ONLY(MODE_SUPERVISOR),                        false },
-    { SPSR_svc, SPSR_svc, ONLY(MODE_SUPERVISOR),                        false },
-    { LR_abt,   SP_abt,   ONLY(MODE_ABORT),                             false },
-    { SPSR_abt, SPSR_abt, ONLY(MODE_ABORT),                             false },
-    { LR_und,   SP_und,   ONLY(MODE_UNDEFINED),                         false },
-    { SPSR_und, SPSR_und, ONLY(MODE_UNDEFINED),                         false },
-    { LR_mon,   SP_mon,   ONLY(MODE_MONITOR),                           true  },
-    { SPSR_mon, SPSR_mon, ONLY(MODE_MONITOR),                           true  },
-    { ELR_hyp,  ELR_hyp,  ALL_BUT(ONLY(MODE_MONITOR) | ONLY(MODE_HYP)), false },
-    { SP_hyp,   SP_hyp,   ALL_BUT(ONLY(MODE_MONITOR)),                  false },
-    { SPSR_hyp, SPSR_hyp, ALL_BUT(ONLY(MODE_MONITOR)),                  false },
+    { R8_usr,   SPSR_hyp, ONLY(MODE_USER),                              false, NO_RIGHT     },
+    { R8_usr,   R12_usr,  ALL_BUT(ONLY(MODE_FIQ)),                      false, OWN_REGISTER },
+    { SP_usr,   SP_usr,   ONLY(MODE_SYSTEM),                            false, OWN_REGISTER },
+    { LR_usr,   LR_usr,   ONLY(MODE_SYSTEM) | ONLY(MODE_HYP),           false, OWN_REGISTER },
+    { R8_fiq,   LR_fiq,   ONLY(MODE_FIQ),                               false, OWN_REGISTER },
+    { SPSR_fiq, SPSR_fiq, ONLY(MODE_FIQ),                               false, OWN_REGISTER },
+    { LR_irq,   SP_irq,   ONLY(MODE_IRQ),                               false, OWN_REGISTER },
+    { SPSR_irq, SPSR_irq, ONLY(MODE_IRQ),                               false, OWN_REGISTER },
+    { LR_svc,   SP_svc,   ONLY(MODE_SUPERVISOR),                        false, OWN_REGISTER },
+    { SPSR_svc, SPSR_svc, ONLY(MODE_SUPERVISOR),                        false, OWN_REGISTER },
+    { LR_abt,   SP_abt,   ONLY(MODE_ABORT),                             false, OWN_REGISTER },
+    { SPSR_abt, SPSR_abt, ONLY(MODE_ABORT),                             false, OWN_REGISTER },
+    { LR_und,   SP_und,   ONLY(MODE_UNDEFINED),                         false, OWN_REGISTER },
+    { SPSR_und, SPSR_und, ONLY(MODE_UNDEFINED),                         false, OWN_REGISTER },
+    { LR_mon,   SP_mon,   NO_MODE,                                      true,  NO_RIGHT     },
+    { LR_mon,   SP_mon,   ONLY(MODE_MONITOR),                           false, OWN_REGISTER },
+    { SPSR_mon, SPSR_mon, NO_MODE,                                      true,  NO_RIGHT     },
+    { SPSR_mon, SPSR_mon, ONLY(MODE_MONITOR),                           false, OWN_REGISTER },
+    { ELR_hyp,  ELR_hyp,  ALL_BUT(ONLY(MODE_MONITOR) | ONLY(MODE_HYP)), false, NO_RIGHT     },
+    { SP_hyp,   SP_hyp,   ALL_BUT(ONLY(MODE_MONITOR) | ONLY(MODE_HYP)), false, NO_RIGHT     },
+    { SP_hyp,   SP_hyp,   ONLY(MODE_HYP),                               false, OWN_REGISTER },
+    { SPSR_hyp, SPSR_hyp, ALL_BUT(ONLY(MODE_MONITOR) | ONLY(MODE_HYP)), false, NO_RIGHT     },
+    { SPSR_hyp, SPSR_hyp, ONLY(MODE_HYP),                               false, OWN_REGISTER },
 };
 
 /* Banked-register rights: how many rows say no. */
 #define NOT_ALLOWED_COUNT (sizeof NOT_ALLOWED / sizeof NOT_ALLOWED[0])
 
-/* Banked-register rights: allowed unless a row says no. */
-static bool is_allowed(const struct block *block, uint32_t place)
+/* Banked-register rights: whether a row with this number says no; allowed where none does with either. */
+static bool is_denied(const struct block *block, uint32_t place, enum number number)
 {
     for (size_t i = 0; i < NOT_ALLOWED_COUNT; i++) {
+        if (NOT_ALLOWED[i].number != number)
+            continue;
         if (place < NOT_ALLOWED[i].first || place > NOT_ALLOWED[i].last)
             continue;
         if (is_in(mode_of(block), NOT_ALLOWED[i].modes))
-            return false;
+            return true;
         if (NOT_ALLOWED[i].non_secure && !is_secure(block))
-            return false;
+            return true;
     }
-    return true;
+    return false;
 }
 
 /* ----------------------------------------------------------- The return */

@@ -1,7 +1,7 @@
 /*
  * The worked cases of document 01, "Numbers to hold against it", a to l, and
- * cases of our own for No. 1, No. 2, No. 5, No. 6, No. 7, No. 8 and No. 9 of
- * document 02: each is run and printed.  Exit status 1 if one differs.
+ * cases of our own for No. 1, No. 2, No. 5, No. 6, No. 7, No. 8, No. 9 and
+ * No. 10 of document 02: each is run and printed.  Exit status 1 if one differs.
  *
  *     cc -std=c11 -Wall -Wextra -Werror -O2 -I../host step.c batch.c check.c count.c session.c record.c test.c -o test &&
  *         ./test
@@ -32,7 +32,7 @@ struct worked_case {
     bool unchanged;
 };
 
-/* Numbers to hold against it: a to k.  In k LR_mon is given a word, so that the read shows. */
+/* Numbers to hold against it: a to k; j, A 62, as No. 10 has it.  In k LR_mon is given a word, so that the read shows. */
 static const struct worked_case CASES[] = {
     { .name = "a",
       .start = { [SCR] = 1, [CPSR] = 0x13, [PC] = 0x8000, [VBAR_NS] = 0x10000000 },
@@ -78,7 +78,7 @@ static const struct worked_case CASES[] = {
       .code = CODE_BANKED_READ, .a = 30, .number = DONE, .unchanged = true },
     { .name = "j, A 62",
       .start = { [SCR] = 1, [CPSR] = 0x1A, [PC] = 0x8000 },
-      .code = CODE_BANKED_READ, .a = 62, .number = NO_RIGHT, .unchanged = true },
+      .code = CODE_BANKED_READ, .a = 62, .number = OWN_REGISTER, .unchanged = true },
     { .name = "j, A 7",
       .start = { [SCR] = 1, [CPSR] = 0x1A, [PC] = 0x8000 },
       .code = CODE_BANKED_READ, .a = 7, .number = NO_REGISTER, .unchanged = true },
@@ -176,15 +176,16 @@ static const struct {
     { CODE_SVC, 1 },              /* BAD_EVENT, under its own code */
     { CODE_INTERRUPT_CHECK, 32 }, /* BAD_EVENT: not done, and so no check that took nothing */
     { CODES, 0 },                 /* BAD_EVENT, under 0 */
+    { CODE_BANKED_READ, 31 },     /* SP_hyp, from Hyp: OWN_REGISTER */
     { CODE_RETURN, 2 },           /* from Hyp with an A: BAD_EVENT, under its own code */
     { CODE_RETURN, 0 },           /* back to IRQ mode: done, and no entry */
     { CODE_BANKED_READ, 7 },      /* NO_REGISTER */
 };
 
 /* No. 1: what they add up to, once and twice. */
-static const char ONCE[] = "1 0 1\n1 2 1\n1 3 1\n1 4 1\n1 9 3\n1 10 1\n1 13 2\n2 0 4\n2 4 4\n2 6 1\n2 16 1\n"
+static const char ONCE[] = "1 0 1\n1 2 1\n1 3 1\n1 4 1\n1 9 3\n1 10 2\n1 13 2\n2 0 4\n2 4 4\n2 6 1\n2 16 1\n2 17 1\n"
                            "3 18 1\n3 26 1\n4 0 1\n4 3 1\n";
-static const char TWICE[] = "1 0 2\n1 2 2\n1 3 2\n1 4 2\n1 9 6\n1 10 2\n1 13 4\n2 0 8\n2 4 8\n2 6 2\n2 16 2\n"
+static const char TWICE[] = "1 0 2\n1 2 2\n1 3 2\n1 4 2\n1 9 6\n1 10 4\n1 13 4\n2 0 8\n2 4 8\n2 6 2\n2 16 2\n2 17 2\n"
                             "3 18 2\n3 26 2\n4 0 2\n4 3 2\n";
 
 /* The trace: the lengths of the records, and of the trace of COUNTED. */
@@ -290,13 +291,13 @@ enum {
 
 /* No. 2: what single steps in order answer. */
 static const struct pomurica_answer ANSWERS[LISTED] = {
-    { DONE, 0x31218 }, /* case a: enters IRQ mode */
+    { DONE, 0x31218 },   /* case a: enters IRQ mode */
     { BAD_EVENT, 0 },
-    { DONE, 0 },       /* I is set by the entry: nothing taken */
+    { DONE, 0 },         /* I is set by the entry: nothing taken */
     { DONE, 0 },
-    { DONE, 0x1A14 },  /* enters Hyp mode, from the PC that was noted */
-    { NO_RIGHT, 0 },   /* SP_hyp, from Hyp */
-    { DONE, 0x9004 },  /* ELR_hyp */
+    { DONE, 0x1A14 },    /* enters Hyp mode, from the PC that was noted */
+    { OWN_REGISTER, 0 }, /* SP_hyp, from Hyp */
+    { DONE, 0x9004 },    /* ELR_hyp */
 };
 
 /* No. 2: the words that they leave in the block. */
@@ -1450,6 +1451,159 @@ static void run_returns(void)
     run_returning_trace();
 }
 
+/* No. 10: the paper's own, and where two numbers fit; the table below has the others. */
+static const struct worked_case DENIED_CASES[] = {
+    { .name = "SP_svc", /* "SP_svc from Supervisor is 17" */
+      .start = { [SCR] = SCR_NS, [CPSR] = 0x13, [PC] = 0x8000, [SP_svc] = 0x600DCAFE },
+      .code = CODE_BANKED_READ, .a = 19, .number = OWN_REGISTER, .unchanged = true },
+    { .name = "SP_svc, 11",
+      .start = { [SCR] = SCR_NS, [CPSR] = 0x13, [PC] = 0x8000, [SP_svc] = 0x600DCAFE },
+      .code = CODE_BANKED_WRITE, .a = 19, .number = OWN_REGISTER, .unchanged = true },
+    { .name = "SP_svc, S",
+      .start = { [CPSR] = 0x13, [PC] = 0x8000, [SP_svc] = 0x600DCAFE },
+      .code = CODE_BANKED_READ, .a = 19, .number = OWN_REGISTER, .unchanged = true },
+    { .name = "SP_hyp", /* "SP_hyp from Supervisor is 7"; "case i does not" change */
+      .start = { [SCR] = SCR_NS, [CPSR] = 0x13, [PC] = 0x8000, [SP_hyp] = 0x600DCAFE },
+      .code = CODE_BANKED_READ, .a = 31, .number = NO_RIGHT, .unchanged = true },
+    { .name = "SP_hyp, 11",
+      .start = { [SCR] = SCR_NS, [CPSR] = 0x13, [PC] = 0x8000, [SP_hyp] = 0x600DCAFE },
+      .code = CODE_BANKED_WRITE, .a = 31, .number = NO_RIGHT, .unchanged = true },
+    { .name = "SPSR_hyp", /* "SPSR_hyp from Hyp is 17" */
+      .start = { [SCR] = SCR_NS, [CPSR] = 0x1A, [PC] = 0x8000, [SPSR_hyp] = 0x600DCAFE },
+      .code = CODE_BANKED_READ, .a = 62, .number = OWN_REGISTER, .unchanged = true },
+    { .name = "SPSR_hyp, 11",
+      .start = { [SCR] = SCR_NS, [CPSR] = 0x1A, [PC] = 0x8000, [SPSR_hyp] = 0x600DCAFE },
+      .code = CODE_BANKED_WRITE, .a = 62, .number = OWN_REGISTER, .unchanged = true },
+    { .name = "User, R8_usr", /* "any register from User is 7": User could reach this one, "if both fit, 7" */
+      .start = { [SCR] = SCR_NS, [CPSR] = 0x10, [PC] = 0x8000, [R8_usr] = 0x600DCAFE },
+      .code = CODE_BANKED_READ, .a = 0, .number = NO_RIGHT, .unchanged = true },
+    { .name = "User, LR_usr",
+      .start = { [CPSR] = 0x10, [PC] = 0x8000, [LR_usr] = 0x600DCAFE },
+      .code = CODE_BANKED_WRITE, .a = 6, .number = NO_RIGHT, .unchanged = true },
+    { .name = "User, A 7", /* NO_REGISTER is the lower */
+      .start = { [SCR] = SCR_NS, [CPSR] = 0x10, [PC] = 0x8000 },
+      .code = CODE_BANKED_READ, .a = 7, .number = NO_REGISTER, .unchanged = true },
+    { .name = "svc, A 83", /* SP_svc's 19, and 64: BAD_EVENT */
+      .start = { [SCR] = SCR_NS, [CPSR] = 0x13, [PC] = 0x8000 },
+      .code = CODE_BANKED_READ, .a = 83, .number = BAD_EVENT, .unchanged = true },
+    { .name = "svc, TGE 1", /* not good: BAD_STATE */
+      .start = { [SCR] = SCR_NS, [HCR] = HCR_TGE, [CPSR] = 0x13, [PC] = 0x8000 },
+      .code = CODE_BANKED_READ, .a = 19, .number = BAD_STATE, .unchanged = true },
+};
+
+/* No. 10: how many by hand. */
+#define DENIED_CASE_COUNT (sizeof DENIED_CASES / sizeof DENIED_CASES[0])
+
+/* No. 10: sets of registers, one bit for each A that names one. */
+#define CELL(a) (UINT64_C(1) << (a))
+#define R8_TO_R12_USR (CELL(0) | CELL(1) | CELL(2) | CELL(3) | CELL(4))
+#define SP_LR_USR (CELL(5) | CELL(6))
+#define ONLY_LR_USR CELL(6)
+#define ALL_FIQ (CELL(8) | CELL(9) | CELL(10) | CELL(11) | CELL(12) | CELL(13) | CELL(14) | CELL(32 + 14))
+#define ALL_IRQ (CELL(16) | CELL(17) | CELL(32 + 16))
+#define ALL_SVC (CELL(18) | CELL(19) | CELL(32 + 18))
+#define ALL_ABT (CELL(20) | CELL(21) | CELL(32 + 20))
+#define ALL_UND (CELL(22) | CELL(23) | CELL(32 + 22))
+#define ALL_MON (CELL(28) | CELL(29) | CELL(32 + 28))
+#define SP_SPSR_HYP (CELL(31) | CELL(32 + 30))
+#define ALL_HYP (CELL(30) | SP_SPSR_HYP)
+#define NO_CELL UINT64_C(0)
+#define ALL_CELLS (R8_TO_R12_USR | SP_LR_USR | ALL_FIQ | ALL_IRQ | ALL_SVC | ALL_ABT | ALL_UND | ALL_MON | ALL_HYP)
+
+/* No. 10: what source 004 has that "cannot access", by mode: "The current mode registers", and the others; User none at all. */
+static const struct reacher {
+    const char *name;
+    uint32_t mode, ns;
+    uint64_t own, beyond;
+} REACHERS[] = {
+    { "User",          MODE_USER,       0, NO_CELL,                                   ALL_CELLS },
+    { "FIQ",           MODE_FIQ,        0, ALL_FIQ,                                   ALL_HYP },
+    { "IRQ",           MODE_IRQ,        0, R8_TO_R12_USR | ALL_IRQ,                   ALL_HYP },
+    { "Supervisor",    MODE_SUPERVISOR, 0, R8_TO_R12_USR | ALL_SVC,                   ALL_HYP },
+    { "Monitor",       MODE_MONITOR,    0, R8_TO_R12_USR | ALL_MON,                   NO_CELL },
+    { "Abort",         MODE_ABORT,      0, R8_TO_R12_USR | ALL_ABT,                   ALL_HYP },
+    { "Undefined",     MODE_UNDEFINED,  0, R8_TO_R12_USR | ALL_UND,                   ALL_HYP },
+    { "System",        MODE_SYSTEM,     0, R8_TO_R12_USR | SP_LR_USR,                 ALL_HYP },
+    { "NS User",       MODE_USER,       1, NO_CELL,                                   ALL_CELLS },
+    { "NS FIQ",        MODE_FIQ,        1, ALL_FIQ,                                   ALL_MON | ALL_HYP },
+    { "NS IRQ",        MODE_IRQ,        1, R8_TO_R12_USR | ALL_IRQ,                   ALL_MON | ALL_HYP },
+    { "NS Supervisor", MODE_SUPERVISOR, 1, R8_TO_R12_USR | ALL_SVC,                   ALL_MON | ALL_HYP },
+    { "NS Monitor",    MODE_MONITOR,    1, R8_TO_R12_USR | ALL_MON,                   NO_CELL },
+    { "NS Abort",      MODE_ABORT,      1, R8_TO_R12_USR | ALL_ABT,                   ALL_MON | ALL_HYP },
+    { "Hyp",           MODE_HYP,        1, R8_TO_R12_USR | ONLY_LR_USR | SP_SPSR_HYP, ALL_MON },
+    { "NS Undefined",  MODE_UNDEFINED,  1, R8_TO_R12_USR | ALL_UND,                   ALL_MON | ALL_HYP },
+    { "NS System",     MODE_SYSTEM,     1, R8_TO_R12_USR | SP_LR_USR,                 ALL_MON | ALL_HYP },
+};
+
+/* No. 10: the number of an access from the mode to what A names. */
+static uint32_t number_of_access(const struct reacher *reacher, uint32_t a)
+{
+    if ((ALL_CELLS & CELL(a)) == 0)
+        return NO_REGISTER;
+    if ((reacher->beyond & CELL(a)) != 0)
+        return NO_RIGHT;
+    return (reacher->own & CELL(a)) != 0 ? OWN_REGISTER : DONE;
+}
+
+/* No. 10: whether an access gives its number; "A refused step: number, value 0, block unchanged", and no write was done. */
+static bool reaches(const struct reacher *reacher, uint32_t code, uint32_t a)
+{
+    const uint32_t due = number_of_access(reacher, a);
+    uint8_t before[BLOCK_SIZE], block[BLOCK_SIZE], answer[ANSWER_SIZE];
+    uint32_t number;
+    bool stayed;
+
+    memset(before, 0x11, sizeof before);
+    put_word(before + 4 * CPSR, reacher->mode);
+    put_word(before + 4 * SCR, reacher->ns * SCR_NS);
+    put_word(before + 4 * HCR, 0);
+    memcpy(block, before, sizeof block);
+    number = second_step(block, sizeof block, code, a, 0, answer, sizeof answer);
+    stayed = memcmp(block, before, sizeof block) == 0;
+    if (number != due || get_word(answer) != due)
+        return false;
+    if (due == DONE && code == CODE_BANKED_WRITE)
+        return get_word(answer + 4) == 0 && !stayed;
+    return get_word(answer + 4) == (due == DONE ? 0x11111111 : 0) && stayed;
+}
+
+/* No. 10: each A read and written from one mode. */
+static void run_reacher(const struct reacher *reacher)
+{
+    unsigned accesses = 0;
+
+    for (uint32_t a = 0; a < 64; a++) {
+        accesses += reaches(reacher, CODE_BANKED_READ, a);
+        accesses += reaches(reacher, CODE_BANKED_WRITE, a);
+    }
+    printf("%-13s %u accesses as due", reacher->name, accesses);
+    tell(accesses == 128);
+}
+
+/* No. 10: "Old traces that show 7 where 17 now stands are WRONG_STEP", and no less those that show 17 where 7 stays. */
+static void run_denied_trace(const struct worked_case *worked)
+{
+    const uint32_t other = worked->number == NO_RIGHT ? OWN_REGISTER : NO_RIGHT;
+    uint8_t trace[ONE_LENGTH];
+
+    record_nothing(trace, worked);
+    put_word(trace + START_LENGTH + STEP_ANSWER, other);
+    run_trace(other == NO_RIGHT ? "7 for 17" : "17 for 7", trace, sizeof trace, WRONG_STEP, START_LENGTH, 0);
+    put_word(trace + START_LENGTH + STEP_ANSWER, worked->number);
+    run_trace(other == NO_RIGHT ? "17" : "7", trace, sizeof trace, DONE, sizeof trace, 1);
+}
+
+static void run_denials(void)
+{
+    for (size_t i = 0; i < DENIED_CASE_COUNT; i++) {
+        run_case(&DENIED_CASES[i]);
+        if (DENIED_CASES[i].number == NO_RIGHT || DENIED_CASES[i].number == OWN_REGISTER)
+            run_denied_trace(&DENIED_CASES[i]);
+    }
+    for (size_t i = 0; i < sizeof REACHERS / sizeof REACHERS[0]; i++)
+        run_reacher(&REACHERS[i]);
+}
+
 int main(void)
 {
     for (size_t i = 0; i < CASE_COUNT; i++)
@@ -1462,6 +1616,7 @@ int main(void)
     run_recordings();
     run_calls();
     run_returns();
+    run_denials();
     printf("%u passed, %u failed\n", run - differing, differing);
     return differing == 0 ? 0 : 1;
 }

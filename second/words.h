@@ -1,7 +1,7 @@
 /*
  * The words of document 01: its names for places, modes, events, numbers, bits
  * and the parts of a record, and how a word lies in bytes.  No. 1, No. 6, No. 7,
- * No. 8 and No. 9 are those of document 02.
+ * No. 8, No. 9 and No. 10 are those of document 02.
  */
 #ifndef WORDS_H
 #define WORDS_H
@@ -113,8 +113,8 @@ enum line_bits {
 };
 
 /*
- * Answer numbers: 0 to 7 of a step, and 16 (No. 8); 0 and 8 to 12 of the checker (The trace); 13 and 15 of counts (No. 1); 14
- * of a feeding (No. 6); 0, 1, 10 and 15 of the recorder (No. 7).
+ * Answer numbers: 0 to 7 of a step, 16 (No. 8) and 17 (No. 10); 0 and 8 to 12 of the checker (The trace); 13 and 15 of counts
+ * (No. 1); 14 of a feeding (No. 6); 0, 1, 10 and 15 of the recorder (No. 7).
  */
 enum number {
     DONE = 0,
@@ -133,7 +133,8 @@ enum number {
     FULL = 13,
     CLOSED = 14,
     NO_ROOM = 15,
-    DISABLED = 16
+    DISABLED = 16,
+    OWN_REGISTER = 17
 };
 
 /* The state block, Answer numbers, The trace, No. 1: sizes in bytes. */

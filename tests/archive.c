@@ -18,6 +18,8 @@ enum {
     SCR = POMURICA_PLACE_SCR,
     HCR = POMURICA_PLACE_HCR,
     VBAR_NS = POMURICA_PLACE_VBAR_NS,
+    R8_USR = POMURICA_PLACE_R8_USR,
+    SP_USR = POMURICA_PLACE_SP_USR,
     LR_IRQ = POMURICA_PLACE_LR_IRQ,
     LR_SVC = POMURICA_PLACE_LR_SVC,
     LR_ABT = POMURICA_PLACE_LR_ABT,
@@ -264,7 +266,7 @@ static const struct refused_return REFUSED_RETURNS[] = {
     { "A 8, from Secure System", 0, 0x1F, 0, 8, 0, POMURICA_NOT_HERE },
 };
 
-/* Cases i, j and k: a banked read, and the place of the register that a done one shows. */
+/* Cases i, j and k, and those of No. 10: a banked read, and the place of the register that a done one shows. */
 struct read_case {
     const char *name;
     struct start start;
@@ -275,9 +277,22 @@ static const struct read_case READS[] = {
     { "i", { .scr = 1, .cpsr = 0x13, .pc = PC_HERE }, 31, POMURICA_NO_RIGHT, 0 },
     { "i, from 0x16", { .scr = 1, .cpsr = 0x16, .pc = PC_HERE }, 31, POMURICA_DONE, SP_HYP },
     { "j", { .scr = 1, .cpsr = 0x1A, .pc = PC_HERE }, 30, POMURICA_DONE, ELR_HYP },
-    { "j, A 62", { .scr = 1, .cpsr = 0x1A, .pc = PC_HERE }, 62, POMURICA_NO_RIGHT, 0 },
+    { "j, A 62", { .scr = 1, .cpsr = 0x1A, .pc = PC_HERE }, 62, POMURICA_OWN_REGISTER, 0 },
     { "j, A 7", { .scr = 1, .cpsr = 0x1A, .pc = PC_HERE }, 7, POMURICA_NO_REGISTER, 0 },
     { "k", { .cpsr = 0x13, .pc = PC_HERE }, 28, POMURICA_DONE, LR_MON },
+    { "SP_svc from Supervisor", { .scr = 1, .cpsr = 0x13, .pc = PC_HERE }, 19, POMURICA_OWN_REGISTER, 0 },
+    { "SP_svc from Secure Supervisor", { .cpsr = 0x13, .pc = PC_HERE }, 19, POMURICA_OWN_REGISTER, 0 },
+    { "SP_mon from Supervisor", { .scr = 1, .cpsr = 0x13, .pc = PC_HERE }, 29, POMURICA_NO_RIGHT, 0 },
+    { "SP_mon from Monitor", { .scr = 1, .cpsr = 0x16, .pc = PC_HERE }, 29, POMURICA_OWN_REGISTER, 0 },
+    { "SP_hyp from Hyp", { .scr = 1, .cpsr = 0x1A, .pc = PC_HERE }, 31, POMURICA_OWN_REGISTER, 0 },
+    { "LR_usr from Hyp", { .scr = 1, .cpsr = 0x1A, .pc = PC_HERE }, 6, POMURICA_OWN_REGISTER, 0 },
+    { "SP_usr from Hyp", { .scr = 1, .cpsr = 0x1A, .pc = PC_HERE }, 5, POMURICA_DONE, SP_USR },
+    { "ELR_hyp from System", { .scr = 1, .cpsr = 0x1F, .pc = PC_HERE }, 30, POMURICA_NO_RIGHT, 0 },
+    { "SP_usr from System", { .scr = 1, .cpsr = 0x1F, .pc = PC_HERE }, 5, POMURICA_OWN_REGISTER, 0 },
+    { "R8_usr from FIQ", { .scr = 1, .cpsr = 0x11, .pc = PC_HERE }, 0, POMURICA_DONE, R8_USR },
+    { "R8_fiq from FIQ", { .scr = 1, .cpsr = 0x11, .pc = PC_HERE }, 8, POMURICA_OWN_REGISTER, 0 },
+    { "R8_usr from User", { .scr = 1, .cpsr = 0x10, .pc = PC_HERE }, 0, POMURICA_NO_RIGHT, 0 },
+    { "SP_usr from Secure User", { .cpsr = 0x10, .pc = PC_HERE }, 5, POMURICA_NO_RIGHT, 0 },
 };
 
 #define COUNT(rows) (sizeof(rows) / sizeof((rows)[0]))

@@ -49,7 +49,8 @@ static const struct {
     { { POMURICA_EVENT_HVC, 0, 0 }, { POMURICA_DONE, 0x1A14 } },                              /* enters Hyp */
     { { POMURICA_EVENT_HYP_TRAP, 0, 0 }, { POMURICA_NOT_HERE, 0 } },
     { { POMURICA_EVENT_BANKED_READ, 7, 0 }, { POMURICA_NO_REGISTER, 0 } },
-    { { POMURICA_EVENT_BANKED_READ, 62, 0 }, { POMURICA_NO_RIGHT, 0 } },
+    { { POMURICA_EVENT_BANKED_READ, 62, 0 }, { POMURICA_OWN_REGISTER, 0 } },
+    { { POMURICA_EVENT_BANKED_READ, 29, 0 }, { POMURICA_NO_RIGHT, 0 } },
     { { POMURICA_EVENT_BANKED_READ, 30, 0 }, { POMURICA_DONE, 0x1000000C } },                 /* ELR_hyp: behind the HVC */
 };
 

@@ -9,7 +9,7 @@ import re
 import sys
 
 sys.dont_write_bytecode = True
-from records import START_BLOCK, START_SIZE, STEP_BLOCK  # noqa: E402
+from records import START_BLOCK, START_SIZE, STEP_BLOCK, STEP_NUMBER  # noqa: E402
 from runs import Runs, read  # noqa: E402
 
 SAMPLES = os.path.abspath(sys.argv[1])
@@ -36,6 +36,8 @@ MISUSED = [
     (['copy', '1', 'CPSR'], 'copy takes STEP PLACE TO'),
     (['copy', '10', 'CPSR', 'PC'], 'no Step 10: the trace has 9'),
     (['copy', '1', 'CPSR', 'SPSR'], "no place 'SPSR' in the block"),
+    (['answer', '1'], 'answer takes STEP NUMBER'),
+    (['answer', '10', '7'], 'no Step 10: the trace has 9'),
     (['flip', '1', 'CPSR', '32'], 'no bit 32 in a word'),
     (['flip-all', 'SCR'], 'flip-all takes PLACE BIT'),
     (['flip-all', 'SCR', '-1'], 'no bit -1 in a word'),
@@ -90,6 +92,9 @@ def try_kinds():
     copied = HONEST[:mvbar] + HONEST[pc:pc + 4] + HONEST[mvbar + 4:]
     expect('a word that is copied', damage('copy', '1', 'PC', 'MVBAR') == (0, copied, b'') and copied != HONEST)
     expect('and one to where it is', damage('copy', '1', 'PC', 'PC') == (0, HONEST, b''))
+    at = START_SIZE + STEP_NUMBER
+    answered = HONEST[:at] + bytes([7, 0, 0, 0]) + HONEST[at + 4:]
+    expect('an answer', damage('answer', '1', '7') == (0, answered, b'') and answered != HONEST)
     expect('a sum wraps', damage('add', '1', 'R8_usr', '0x100000000') == (0, HONEST, b''))
     expect('a cut of nothing, and of everything', (damage('cut', '0')[1], damage('cut', '1992')[1]) == (b'', HONEST))
 

@@ -365,18 +365,51 @@ static void show_pairs(void)
     }
 }
 
+/* The modes that have registers of their own by name; those of User are System's, which alone has a right that can be denied. */
+static const struct {
+    uint32_t mode;
+    const char *suffix;
+} OWNERS[] = {
+    { MODE_FIQ, "_fiq" }, { MODE_IRQ, "_irq" }, { MODE_SUPERVISOR, "_svc" }, { MODE_MONITOR, "_mon" },
+    { MODE_ABORT, "_abt" }, { MODE_HYP, "_hyp" }, { MODE_UNDEFINED, "_und" }, { MODE_SYSTEM, "_usr" },
+};
+
+static bool ends_in(const char *name, const char *suffix)
+{
+    return strcmp(name + strlen(name) - strlen(suffix), suffix) == 0;
+}
+
+/* Whether a mode reaches the register by another instruction: by Figure F5-1 of source 004, where it has none of its own usr's. */
+static bool is_own(const char *name, uint32_t mode)
+{
+    const bool general = name[0] == 'R' && ends_in(name, "_usr");
+
+    if (strcmp(name, "ELR_hyp") == 0)
+        return false;
+    if (general)
+        return mode != MODE_USER && mode != MODE_FIQ;
+    for (size_t i = 0; i < COUNT(OWNERS); i++)
+        if (OWNERS[i].mode == mode && ends_in(name, OWNERS[i].suffix))
+            return true;
+    return mode == MODE_HYP && strcmp(name, "LR_usr") == 0;
+}
+
 /* What came of the accesses to one cell from one mode and NS: of both kinds, often enough, and always the same. */
 static enum right right_of(uint32_t a, uint32_t mode, uint32_t ns)
 {
+    static const char *const NAMES[RIGHTS] = { "allowed", "denied", "its own", "no register" };
     const unsigned long (*times)[ACCESSES] = met.right[a][mode][ns];
-    const enum right right = banked_name(a) == NULL ? EMPTY : times[ALLOWED][BANKED_READ] != 0 ? ALLOWED : DENIED;
+    const enum right right = banked_name(a) == NULL                 ? EMPTY
+                             : is_own(banked_name(a), mode)         ? OWN
+                             : times[ALLOWED][BANKED_READ] != 0     ? ALLOWED
+                                                                    : DENIED;
 
     for (uint32_t i = 0; i < RIGHTS; i++)
         for (uint32_t access = 0; access < ACCESSES; access++)
             check(i == right ? times[i][access] >= seldom_of_many : times[i][access] == 0,
                   "A %" PRIu32 " %s from mode 0x%02" PRIX32 ", NS %" PRIu32 ": %s %lu times", a,
                   access == BANKED_READ ? "read" : "written", mode, ns,
-                  i == ALLOWED ? "allowed" : i == DENIED ? "denied" : "no register", times[i][access]);
+                  NAMES[i], times[i][access]);
     return right;
 }
 
@@ -392,7 +425,7 @@ static void show_rights_of(uint32_t a)
             const unsigned long *times = met.right[a][MODES[i]][ns][right];
 
             length += (size_t)snprintf(row + length, sizeof row - length, "%5lu%c", times[BANKED_READ] + times[BANKED_WRITE],
-                                       right == DENIED ? '-' : ' ');
+                                       right == DENIED ? '-' : right == OWN ? 'o' : ' ');
         }
     if (banked_name(a) != NULL)
         printf("  %2" PRIu32 " %-8s%s\n", a, banked_name(a), row);
@@ -401,7 +434,7 @@ static void show_rights_of(uint32_t a)
 /* Cells that hold no register are checked, and not shown. */
 static void show_rights(void)
 {
-    printf("\n  banked accesses by mode, each with NS 0 and 1; - where the right is denied\n  %-11s", "A");
+    printf("\n  banked accesses by mode, each with NS 0 and 1; - where the right is denied, o where the register is its own\n  %-11s", "A");
     for (uint32_t i = 0; i < MODE_COUNT; i++)
         printf(MODES[i] == MODE_HYP ? " 0x%02X " : "    0x%02X    ", MODES[i]);
     printf("\n");

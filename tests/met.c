@@ -278,7 +278,10 @@ static void count_return(const struct question *question, const struct steering 
 
 static void count_access(const struct event *event, const struct steering *before, uint32_t number)
 {
-    const enum right right = number == DONE ? ALLOWED : number == NO_RIGHT ? DENIED : EMPTY;
+    const enum right right = number == DONE           ? ALLOWED
+                             : number == NO_RIGHT     ? DENIED
+                             : number == OWN_REGISTER ? OWN
+                                                      : EMPTY;
 
     met.right[event->a][before->mode][before->scr & SCR_NS][right]
              [event->code == CODE_BANKED_READ ? BANKED_READ : BANKED_WRITE]++;

@@ -98,7 +98,7 @@ enum access {
     ACCESSES
 };
 enum right {
-    ALLOWED, DENIED, EMPTY,
+    ALLOWED, DENIED, OWN, EMPTY,
     RIGHTS
 };
 

@@ -20,6 +20,7 @@ KILLED = [
         ('MONITOR_TRAP', 0), ('INTERRUPT_CHECK', 31), ('BANKED_READ', 63), ('RETURN', 8)]),
     'masks_of_hyp: [[masks |= CPSR_F => ]];',
     'refusal_of: [[return NO_RIGHT => ]];',
+    'refusal_of: [[return OWN_REGISTER => ]];',
     'offset_of: if ([[target == MODE_HYP && mode_of(block) != MODE_HYP && exception != IRQ && exception != FIQ => not]])',
     'act: [[case CODE_NOTE: => ]]',
     'second_step: if (number == DONE [[&& => ||]] code == CODE_NOTE)',

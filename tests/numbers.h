@@ -8,14 +8,14 @@
 #include <stdint.h>
 
 enum {
-    LAST_NUMBER = POMURICA_DISABLED, /* of all that there are */
-    STEP_NUMBERS = POMURICA_DISABLED + 1 /* to count those of a step by */
+    LAST_NUMBER = POMURICA_OWN_REGISTER, /* of all that there are */
+    STEP_NUMBERS = POMURICA_OWN_REGISTER + 1 /* to count those of a step by */
 };
 
 /* Whether a step can answer so; BAD_SIZE only where a buffer has not its size. */
 static inline bool is_of_step(uint32_t number)
 {
-    return number <= POMURICA_NO_RIGHT || number == POMURICA_DISABLED;
+    return number <= POMURICA_NO_RIGHT || number == POMURICA_DISABLED || number == POMURICA_OWN_REGISTER;
 }
 
 #endif

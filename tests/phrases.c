@@ -58,8 +58,9 @@ static bool try_access(uint32_t a, uint32_t mode, uint32_t scr)
     if (number == POMURICA_BAD_STATE) /* Hyp with NS 0 */
         return false;
     if (number != POMURICA_DONE) {
-        check(number == (place == POMURICA_PLACES ? POMURICA_NO_REGISTER : POMURICA_NO_RIGHT), "A %u from mode %x: %s",
-              (unsigned)a, (unsigned)mode, pomurica_number_name(number));
+        check(place == POMURICA_PLACES ? number == POMURICA_NO_REGISTER
+                                       : number == POMURICA_NO_RIGHT || number == POMURICA_OWN_REGISTER,
+              "A %u from mode %x: %s", (unsigned)a, (unsigned)mode, pomurica_number_name(number));
         return false;
     }
     if (!check(place < POMURICA_PLACES, "A %u: read, and named as no register", (unsigned)a))
@@ -273,12 +274,16 @@ static void try_outcomes(void)
 {
     const struct in_trace interrupt = step_after(POMURICA_EVENT_INTERRUPT_CHECK, POMURICA_MODE_SUPERVISOR, 0, 0);
     const struct in_trace read = step_after(POMURICA_EVENT_BANKED_READ, POMURICA_MODE_SUPERVISOR, 0, 0);
+    const struct in_trace user_read = step_after(POMURICA_EVENT_BANKED_READ, POMURICA_MODE_USER, 0, 0);
     const struct in_trace note = step_after(POMURICA_EVENT_NOTE, POMURICA_MODE_SUPERVISOR, 0, 0);
 
     expect_outcome(&interrupt, POMURICA_DONE, 0x31218, "IRQ: enters IRQ mode at 0x18");
     expect_outcome(&interrupt, POMURICA_DONE, 0, "takes nothing");
     expect_outcome(&read, POMURICA_DONE, 7, "reads 0x00000007");
-    expect_outcome(&read, POMURICA_NO_RIGHT, 0, "refused with 7 NO_RIGHT");
+    expect_outcome(&read, POMURICA_NO_RIGHT, 0, "refused with 7 NO_RIGHT (not accessible from this mode and state)");
+    expect_outcome(&user_read, POMURICA_NO_RIGHT, 0, "refused with 7 NO_RIGHT (no banked register is accessible from User)");
+    expect_outcome(&read, POMURICA_OWN_REGISTER, 0,
+                   "refused with 17 OWN_REGISTER (its own register, reached by another instruction)");
     expect_outcome(&note, POMURICA_DONE, 0, "written");
 }
 

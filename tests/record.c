@@ -46,7 +46,8 @@ static const struct pomurica_event MIXED[] = {
     { POMURICA_EVENT_HVC, 0, 0 },                                         /* enters Hyp */
     { POMURICA_EVENT_HYP_TRAP, 0, 0 },                                    /* NOT_HERE */
     { POMURICA_EVENT_BANKED_READ, 7, 0 },                                 /* NO_REGISTER */
-    { POMURICA_EVENT_BANKED_READ, 62, 0 },                                /* NO_RIGHT */
+    { POMURICA_EVENT_BANKED_READ, 62, 0 },                                /* OWN_REGISTER */
+    { POMURICA_EVENT_BANKED_READ, 29, 0 },                                /* NO_RIGHT */
     { POMURICA_EVENT_NOTE, POMURICA_PLACE_SCR, POMURICA_SCR_NS },
     { POMURICA_EVENT_NOTE, POMURICA_PLACE_CPSR, POMURICA_MODE_SUPERVISOR }, /* and again from there */
 };
@@ -225,7 +226,7 @@ static const uint8_t *step_of(const struct recording *asked, size_t i)
 /* Each event of the mix answers what its comment says; those behind a refused one are done as if it were not there. */
 static void do_mixed(void)
 {
-    static const uint32_t NUMBERS[] = { 0, 0, 4, 4, 0, 2, 3, 0, 0, 0, 4, 0, 0, 16, 0, 16, 0, 5, 6, 7, 0, 0 };
+    static const uint32_t NUMBERS[] = { 0, 0, 4, 4, 0, 2, 3, 0, 0, 0, 4, 0, 0, 16, 0, 16, 0, 5, 6, 17, 7, 0, 0 };
     const struct recording asked = recording_of(COUNT(MIXED), 1, 1);
 
     _Static_assert(COUNT(NUMBERS) == COUNT(MIXED), "a number for each event");

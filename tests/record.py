@@ -390,7 +390,8 @@ def try_check():
         compare_checks(f'random script {i}', any_script(dice, forms, registers, 200))
     refused = run('--check', os.path.join(SAMPLES, 'refused-event.script'))[1].decode().splitlines()
     expect('refused events have number and name',
-           [line.rpartition('; ')[2] for line in refused] == ['refused with 5 NOT_HERE', 'refused with 7 NO_RIGHT'], refused)
+           [line.rpartition('; ')[2] for line in refused] ==
+           ['refused with 5 NOT_HERE', 'refused with 7 NO_RIGHT (no banked register is accessible from User)'], refused)
     disabled = run('--check', os.path.join(SAMPLES, 'disabled-calls.script'))[1].decode().splitlines()
     expect('disabled calls have the reason too, and Undefined in their places is taken',
            [line.rpartition('; ')[2] for line in disabled if ': note: ' not in line] ==

@@ -186,13 +186,13 @@ static bool is_disabled(const struct row *row)
     return row->code == POMURICA_EVENT_HVC && (scr & POMURICA_SCR_HCE) == 0;
 }
 
-/* Answer numbers: a refusal of the call or access is 5, 6 or 7, value 0, block unchanged. */
+/* Answer numbers: a refusal of the call or access is 5, 6, 7 or 17, value 0, block unchanged. */
 static void check_refused(const struct row *row)
 {
     const struct step step = step_from(row, row->code, row->a, row->b);
 
-    check(step.number >= POMURICA_NOT_HERE && step.number <= POMURICA_NO_RIGHT,
-          "line %u: answered %u, not 5, 6 or 7", row->line, step.number);
+    check((step.number >= POMURICA_NOT_HERE && step.number <= POMURICA_NO_RIGHT) || step.number == POMURICA_OWN_REGISTER,
+          "line %u: answered %u, not 5, 6, 7 or 17", row->line, step.number);
     check(step.value == 0, "line %u: refused with value 0x%X", row->line, step.value);
     check(memcmp(step.block, row->before, sizeof step.block) == 0,
           "line %u: refused, and the block changed", row->line);

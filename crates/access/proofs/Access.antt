@@ -1,4 +1,4 @@
--- A banked access, on each way through its tests: no register, no right, or the access itself.
+-- A banked access, on each way through its tests: no register, denied, or the access itself.
 use mathlib.Core.Path.{_≡_, refl, sym, ap, _∙_}
 use mathlib.Core.Bool.{Bool, true, false, _||_}
 use mathlib.Core.List.{List}
@@ -11,13 +11,14 @@ use Rattle.words.specs.Word.{word, put}
 use Rattle.state.specs.Choice.{if_then_else_, _is_}
 use Rattle.state.specs.Field.{mode-field}
 use Rattle.state.specs.Mode.{modes, known}
-use Rattle.state.specs.Number.{DONE, BAD-EVENT, NO-REGISTER, NO-RIGHT}
+use Rattle.state.specs.Number.{DONE, BAD-EVENT, NO-REGISTER}
 use Rattle.state.specs.Place.{PLACES, BLOCK-SIZE, NO-PLACE, CPSR, SCR, HCR}
 use Rattle.state.specs.State.{fault, secure}
 use Rattle.state.proofs.Good.{parts-of-good}
 use Rattle.state.proofs.Test.{at-one, refuted, true-is-not-false, first-of-two}
 use Rattle.banked.specs.Cell.{cell}
-use Rattle.banked.specs.Right.{denied, right}
+use Rattle.banked.specs.Right.{denied, reason, right}
+use Rattle.banked.proofs.Reasons.{reason-refuses}
 use Rattle.rules.specs.Event.{BANKED-READ, BANKED-WRITE, RETURN, CELL-VALUES, badEvent}
 use Rattle.rules.specs.Parts.{Told, Carried}
 use Rattle.rules.specs.Step.{Action, Refuse, Read, Put, action}
@@ -54,23 +55,23 @@ mode-number b {cpsr} e good =
 abbrev pub Barred : ℕ → ℕ → ℕ → Bool
 Barred a cpsr scr = cell a is NO-PLACE || denied (cell a) (mode-field cpsr) (secure cpsr scr)
 
-abbrev pub Why : ℕ → ℕ
-Why a = if cell a is NO-PLACE then NO-REGISTER else NO-RIGHT
+abbrev pub Why : ℕ → ℕ → ℕ
+Why a cpsr = if cell a is NO-PLACE then NO-REGISTER else reason (cell a) (mode-field cpsr)
 
 -- an access x by A, which is to come to y: refused, or x itself at a place of the block
 pub record Ruled (a cpsr scr : ℕ) (x y : Action) : Type 0 where
-  pub denial : {d : Bool} {n : ℕ} → d ≡ Barred a cpsr scr → d ≡ true → n ≡ Why a → Refuse n ≡ y
+  pub denial : {d : Bool} {n : ℕ} → d ≡ Barred a cpsr scr → d ≡ true → n ≡ Why a cpsr → Refuse n ≡ y
   pub allowed : {d : Bool} → d ≡ Barred a cpsr scr → d ≡ false → x ≡ y
   pub inside : {d : Bool} {p : ℕ} → d ≡ Barred a cpsr scr → d ≡ false → p ≡ cell a → p < PLACES
 
--- no register, no right, or the access: the two refusals under one test
-settled : (none no-right : Bool) (x : Action)
+-- no register, denied for this reason, or the access: the refusals under one test
+settled : (none barred : Bool) (why : ℕ) (x : Action) → (why is DONE) ≡ false
     → (if none then Refuse NO-REGISTER else
-    (if (if no-right then NO-RIGHT else DONE) is DONE then x else Refuse (if no-right then NO-RIGHT else DONE)))
-    ≡ (if none || no-right then Refuse (if none then NO-REGISTER else NO-RIGHT) else x)
-settled true no-right x = refl
-settled false true x = refl
-settled false false x = refl
+    (if (if barred then why else DONE) is DONE then x else Refuse (if barred then why else DONE)))
+    ≡ (if none || barred then Refuse (if none then NO-REGISTER else why) else x)
+settled true barred why x h = refl
+settled false true why x h = rw h
+settled false false why x h = refl
 
 -- it does, by the words of the block that the right goes by
 module _ (b : List ℕ) (a : ℕ) {cpsr scr : ℕ} (ec : cpsr ≡ word b CPSR) (es : scr ≡ word b SCR) where
@@ -86,14 +87,17 @@ module _ (b : List ℕ) (a : ℕ) {cpsr scr : ℕ} (ec : cpsr ≡ word b CPSR) (
       none : Bool
       none = cell a is NO-PLACE
 
-      no-right : Bool
-      no-right = denied (cell a) (mode-field cpsr) (secure cpsr scr)
+      barred : Bool
+      barred = denied (cell a) (mode-field cpsr) (secure cpsr scr)
 
-      so : (if Barred a cpsr scr then Refuse (Why a) else x) ≡ y
-      so = sym (settled none no-right x) ∙ (rw (ec, es) f)
+      why : ℕ
+      why = reason (cell a) (mode-field cpsr)
+
+      so : (if Barred a cpsr scr then Refuse (Why a cpsr) else x) ≡ y
+      so = sym (settled none barred why x (reason-refuses (cell a) (mode-field cpsr))) ∙ (rw (ec, es) f)
 
       there : Barred a cpsr scr ≡ false → none ≡ false
-      there h = refuted none (λ t. true-is-not-false (first-of-two none no-right t) h)
+      there h = refuted none (λ t. true-is-not-false (first-of-two none barred t) h)
 
   module _ (w : ℕ) (size : length b ≡ BLOCK-SIZE) (good : fault b ≡ DONE) where
     pub read-ruled : badEvent BANKED-READ a w ≡ false → Ruled a cpsr scr (Read (cell a)) (action b (event BANKED-READ a w))

@@ -29,7 +29,7 @@ pub fn banked_read(block: &mut [u8], cpsr: u32, scr: u32, a: u32, b: u32, buffer
         return refuse(buffer, number::BAD_EVENT);
     }
     if is_denied(a, cpsr, scr) {
-        return refuse(buffer, denial_of(a));
+        return refuse(buffer, denial_of(a, cpsr));
     }
     let p = cell_of(a);
     done(buffer, Verdict::Register(get_word(block, p)))
@@ -55,7 +55,7 @@ pub fn banked_write(block: &mut [u8], cpsr: u32, scr: u32, a: u32, b: u32, buffe
         return refuse(buffer, number::BAD_EVENT);
     }
     if is_denied(a, cpsr, scr) {
-        return refuse(buffer, denial_of(a));
+        return refuse(buffer, denial_of(a, cpsr));
     }
     let p = cell_of(a);
     put_word(block, p, b);

@@ -1,3 +1,4 @@
 pub mod Cell
 pub mod Right
+pub mod Claims
 pub mod Parts

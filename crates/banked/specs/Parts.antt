@@ -1,5 +1,5 @@
--- Cells as words: what the code's own parts answer. Nobody has to believe these: laws of proofs/ join them to `cell` and to
--- `denied`.
+-- Cells as words: what the code's own parts answer. Nobody has to believe these: laws of proofs/ join them to `cell`, to
+-- `denied` and to `own`.
 use mathlib.Core.Bool.{Bool}
 use mathlib.Core.List.{List, [], _∷_}
 use Prim.Native.Nat.{ℕ, _+_, _*_, _-_, _/_, _^_}
@@ -69,3 +69,16 @@ deniedTo m =
 -- and in either state
 unfoldable pub deniedCells : ℕ → Bool → ℕ
 deniedCells m ns = if ns then bitOr (deniedTo m) of-mon else deniedTo m
+
+-- those of its own that a mode but User reaches by another instruction
+unfoldable pub ownTo : ℕ → ℕ
+ownTo m =
+    if m is low FIQ then 0x7F * 2 ^ 8 + 2 ^ 46 else
+    if m is low IRQ then usr + own 16 else
+    if m is low SUPERVISOR then usr + own 18 else
+    if m is low MONITOR then usr + of-mon else
+    if m is low ABORT then usr + own 20 else
+    if m is low HYP then usr + 2 ^ 6 + hyp else
+    if m is low UNDEFINED then usr + own 22 else
+    if m is low SYSTEM then usr + 2 ^ 5 + 2 ^ 6 else
+    0

@@ -1,15 +1,15 @@
-// Who may reach a banked register (document 01, "Banked-register rights").
+// Who may reach a banked register, and why not (document 01, "Banked-register rights"; document 02, No. 10).
 ghost use mathlib.Core.Path.{_≡_};
 ghost use mathlib.Core.Bool.{_||_};
 ghost use Prim.Native.Nat.{_%_, _≤_};
 ghost use Rattle.state.specs.Choice.{if_then_else_, _is_};
 ghost use Rattle.state.specs.Field.{mode-field, SCR-NS};
-ghost use Rattle.state.specs.Number.{NO-REGISTER, NO-RIGHT};
+ghost use Rattle.state.specs.Number.{NO-REGISTER};
 ghost use Rattle.state.specs.Place.{NO-PLACE};
 ghost use Rattle.state.specs.State.{secure};
 ghost use Rattle.banked.specs.Cell.{cell};
-ghost use Rattle.banked.specs.Parts.{deniedTo, deniedCells};
-ghost use Rattle.banked.specs.Right.{denied};
+ghost use Rattle.banked.specs.Parts.{deniedTo, deniedCells, ownTo};
+ghost use Rattle.banked.specs.Right.{denied, reason};
 use state::field::scr_ns;
 use state::mode::Mode;
 use state::number;
@@ -45,6 +45,8 @@ const SP_AND_SPSR_HYP: u64 = 1 << 31 | 1 << 62;
 const MOST: u64 = UNALLOCATED | R8_TO_R12_USR | ELR_HYP | SP_AND_SPSR_HYP;
 
 const ALL: u64 = 0xFFFF_FFFF_FFFF_FFFF;
+
+const NONE: u64 = 0;
 
 // The modes by the lower four bits of their numbers; the fifth is 1 in each.
 const USER: u32 = Mode::USER.number - 16;
@@ -103,13 +105,34 @@ pub fn is_denied(a: u32, cpsr: u32, scr: u32) -> bool
     }
 }
 
-// Why, as a number.
-pub fn denial_of(a: u32) -> u32
-    ensures { λ r. ⌜ r ≡ (if cell a is NO-PLACE then NO-REGISTER else NO-RIGHT) ⌝ }
+// The cells of its own registers, which a mode reaches by another instruction; none is told of User, which has no right at all.
+fn own_to(mode: u32) -> u64
+    ensures { λ r. ⌜ r ≡ ownTo mode ⌝ }
+{
+    match mode {
+        FIQ => OF_FIQ,
+        IRQ => R8_TO_R12_USR | OF_IRQ,
+        SUPERVISOR => R8_TO_R12_USR | OF_SVC,
+        MONITOR => R8_TO_R12_USR | OF_MON,
+        ABORT => R8_TO_R12_USR | OF_ABT,
+        HYP => R8_TO_R12_USR | LR_USR | SP_AND_SPSR_HYP,
+        UNDEFINED => R8_TO_R12_USR | OF_UND,
+        SYSTEM => R8_TO_R12_USR | SP_USR | LR_USR,
+        _ => NONE,
+    }
+}
+
+// Why, as a number: one look at the set of the mode's own.
+pub fn denial_of(a: u32, cpsr: u32) -> u32
+    requires { ⌜ 16 ≤ mode-field cpsr ⌝ }
+    ensures { λ r. ⌜ r ≡ (if cell a is NO-PLACE then NO-REGISTER else reason (cell a) (mode-field cpsr)) ⌝ }
 {
     if a < 64 {
         if UNALLOCATED >> a & 1 == 1 {
             return number::NO_REGISTER;
+        }
+        if own_to(cpsr % 16) >> a & 1 == 1 {
+            return number::OWN_REGISTER;
         }
         return number::NO_RIGHT;
     }

@@ -1,4 +1,4 @@
--- What the rules answer has a word in each group: numbers are below 17, and the value of an exception tells a mode and an
+-- What the rules answer has a word in each group: numbers are below 18, and the value of an exception tells a mode and an
 -- exception that are below 32.
 use mathlib.Core.Path.{_≡_, refl, sym, ap, _∙_}
 use mathlib.Core.Bool.{Bool, true, false, not, _&&_, _||_}

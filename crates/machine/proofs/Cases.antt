@@ -8,7 +8,7 @@ use lib.Dec.{eqb}
 use lib.ListN.{replicate}
 use Rattle.words.specs.Word.{spelt, word, put}
 use Rattle.state.specs.Mode.{known, el1, guest, isTarget, spsrPlace, lrPlace}
-use Rattle.state.specs.Number.{DONE, BAD-STATE, BAD-EVENT, NOT-HERE, NO-REGISTER, NO-RIGHT, DISABLED}
+use Rattle.state.specs.Number.{DONE, BAD-STATE, BAD-EVENT, NOT-HERE, NO-REGISTER, NO-RIGHT, DISABLED, OWN-REGISTER}
 use Rattle.state.specs.Place.{BLOCK-SIZE, LR-irq, LR-svc, LR-abt, LR-mon, ELR-hyp, SPSR-svc, SPSR-mon, SPSR-hyp, CPSR, PC, SCR, HCR, VBAR-ns}
 use Rattle.state.specs.State.{good}
 use Rattle.entry.specs.Code.{SVC, SMC, HVC}
@@ -18,7 +18,7 @@ use Rattle.interrupts.specs.Check as interrupt
 use Rattle.interrupts.specs.Masking.{obeyed}
 use Rattle.interrupts.specs.Takeable.{pending, masked, takeable}
 use Rattle.banked.specs.Cell.{cell}
-use Rattle.banked.specs.Right.{denied, right}
+use Rattle.banked.specs.Right.{denied, own, reason, right}
 use Rattle.returns.specs.Illegal.{illegal}
 use Rattle.returns.specs.Level.{level}
 use Rattle.returns.specs.Return.{wrongA, modeKept, wordAfter, addressAfter}
@@ -97,9 +97,9 @@ cases =
     -- i, and from 0x16
     ∷ answers (with 1 0x13) 31 NO-RIGHT
     ∷ answers (with 1 0x16) 31 DONE
-    -- j, with A 62 and with A 7
+    -- j, with A 62, which No. 10 of document 02 changed, and with A 7
     ∷ answers (with 1 0x1A) 30 DONE
-    ∷ answers (with 1 0x1A) 62 NO-RIGHT
+    ∷ answers (with 1 0x1A) 62 OWN-REGISTER
     ∷ answers (with 1 0x1A) 7 NO-REGISTER
     ∷ []
 
@@ -107,7 +107,7 @@ pub starred : all cases ≡ true
 unfolding spelt put known el1 guest spsrPlace lrPlace good nsCleared masksAfter cpsrAfter vectorBase written entered
     synchronous.toMonitor synchronous.toHyp synchronous.target synchronous.offset synchronous.link
     synchronous.notHere synchronous.disabled synchronous.way interrupt.found interrupt.way obeyed pending masked takeable cell denied
-    right badEvent refusal doneAction action answer after value
+    own reason right badEvent refusal doneAction action answer after value
 starred = refl
 
 -- ---- No. 5 of document 02
@@ -125,7 +125,7 @@ pub tge-acts : all under-tge ≡ true
 unfolding spelt put known el1 guest spsrPlace lrPlace good nsCleared masksAfter cpsrAfter vectorBase written entered
     synchronous.toMonitor synchronous.toHyp synchronous.target synchronous.offset synchronous.link
     synchronous.notHere synchronous.disabled synchronous.way interrupt.found interrupt.way obeyed pending masked takeable cell denied
-    right badEvent refusal doneAction action answer after value
+    own reason right badEvent refusal doneAction action answer after value
 tge-acts = refl
 
 -- ---- No. 8 of document 02
@@ -158,7 +158,7 @@ pub calls-right : all calls ≡ true
 unfolding spelt put known el1 guest spsrPlace lrPlace good nsCleared masksAfter cpsrAfter vectorBase written entered
     synchronous.toMonitor synchronous.toHyp synchronous.target synchronous.offset synchronous.link
     synchronous.notHere synchronous.disabled synchronous.way interrupt.found interrupt.way obeyed pending masked takeable cell denied
-    right badEvent refusal doneAction action answer after value
+    own reason right badEvent refusal doneAction action answer after value
 calls-right = refl
 
 -- ---- No. 9 of document 02
@@ -198,5 +198,33 @@ returns =
 
 pub returns-right : all returns ≡ true
 unfolding spelt put known el1 guest isTarget spsrPlace lrPlace good illegal level wrongA modeKept wordAfter addressAfter
-    synchronous.notHere synchronous.disabled cell denied right badEvent refusal doneAction action answer after value
+    synchronous.notHere synchronous.disabled cell denied own reason right badEvent refusal doneAction action answer after value
 returns-right = refl
+
+-- ---- No. 10 of document 02
+
+-- the register of A from Non-secure Supervisor, Hyp and User
+abbrev reasons : List Case
+reasons =
+    -- "SP_svc from Supervisor is 17"
+    answers (with 1 0x13) 19 OWN-REGISTER
+    -- "SP_hyp from Supervisor is 7", which is case i
+    ∷ answers (with 1 0x13) 31 NO-RIGHT
+    -- "SPSR_hyp from Hyp is 17", and so is LR_usr; ELR_hyp is allowed
+    ∷ answers (with 1 0x1A) 62 OWN-REGISTER
+    ∷ answers (with 1 0x1A) 6 OWN-REGISTER
+    ∷ answers (with 1 0x1A) 30 DONE
+    -- "any register from User is 7": its own R8_usr and LR_usr, and another's
+    ∷ answers (with 1 0x10) 0 NO-RIGHT
+    ∷ answers (with 1 0x10) 6 NO-RIGHT
+    ∷ answers (with 0 0x10) 19 NO-RIGHT
+    -- Monitor's registers from Monitor with NS 1, from Secure and from Non-secure Supervisor
+    ∷ answers (with 1 0x16) 60 OWN-REGISTER
+    ∷ answers (with 0 0x13) 60 DONE
+    ∷ answers (with 1 0x13) 60 NO-RIGHT
+    ∷ []
+
+pub reasons-right : all reasons ≡ true
+unfolding spelt put known el1 guest isTarget spsrPlace lrPlace good wrongA synchronous.notHere synchronous.disabled cell denied own
+    reason right badEvent refusal doneAction action answer after value
+reasons-right = refl

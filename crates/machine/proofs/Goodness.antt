@@ -190,7 +190,7 @@ returns-right true bad true e h k = (refl, h)
 returns-right true bad false e h k = absurd (true-is-not-false refl k)
 returns-right false bad none e h k = absurd (true-is-not-false e refl)
 
-clear-fault : (b : List ℕ) → unknownMode b ≡ false → notGood b ≡ false → fault b ≡ DONE
+pub clear-fault : (b : List ℕ) → unknownMode b ≡ false → notGood b ≡ false → fault b ≡ DONE
 unfolding fault faultOf
 clear-fault b k g = rw (k, g)
 

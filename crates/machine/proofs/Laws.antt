@@ -11,7 +11,7 @@ use Rattle.words.specs.Word.{word, put, Bytes}
 use Rattle.words.proofs.Laws.{length-put, bytes-put, spelt-fits}
 use Rattle.state.specs.Choice.{if_then_else_, _is_, Row, firstOf}
 use Rattle.state.specs.Field.{mode-field, without}
-use Rattle.state.specs.Mode.{HYP, MONITOR}
+use Rattle.state.specs.Mode.{USER, HYP, MONITOR}
 use Rattle.state.specs.Number.{DONE}
 use Rattle.state.specs.Place.{CPSR, SCR, HCR}
 use Rattle.state.specs.State.{secure}
@@ -28,7 +28,7 @@ use Rattle.interrupts.specs.Exception.{which}
 use Rattle.interrupts.specs.declared.exception.Exception.{Exception}
 use Rattle.interrupts.specs.declared.exception.Exception.the-variants.{Synchronous, SError, Fiq, Irq}
 use Rattle.interrupts.specs.declared.exception.Exception.the-variants.{VirtualSError, VirtualFiq, VirtualIrq}
-use Rattle.banked.specs.Right.{denied, right}
+use Rattle.banked.specs.Right.{denied, own, reason, right}
 use Rattle.rules.specs.declared.event.Event.{Event}
 use Rattle.rules.specs.Parts.{Sound}
 use Rattle.rules.specs.Refusal.{rows, refusal}
@@ -75,31 +75,37 @@ length-after b e = step-keeps (λ c. length c ≡ length b) (λ c p w h. length-
 pub bytes-after : (b : List ℕ) (e : Event) → Bytes b → Bytes (after b e)
 bytes-after b e h = step-keeps Bytes bytes-put b e h
 
--- the numbers of a step are 0 to 7 and 16
+-- the numbers of a step are 0 to 7, 16 and 17
+abbrev pub NUMBERS : ℕ
+NUMBERS = 18
+
 abbrev IsNumber : ℕ → Type 0
-IsNumber n = n < 17
+IsNumber n = n < NUMBERS
 
 right-number : (p cpsr scr : ℕ) → IsNumber (right p cpsr scr)
-unfolding right
-right-number p cpsr scr = chosen IsNumber (denied p (mode-field cpsr) (secure cpsr scr)) (lit< tt) (lit< tt)
+unfolding right reason
+right-number p cpsr scr =
+    let m = mode-field cpsr in
+    let why = chosen IsNumber (m is USER) (lit< tt) (chosen IsNumber (own p m) (lit< tt) (lit< tt)) in
+    chosen IsNumber (denied p m (secure cpsr scr)) why (lit< tt)
 
 -- the first row that applies has a number of one of the rows
 abbrev numbered : List Row → Bool
 numbered [] = true
-numbered (r ∷ rs) = ltb (r .number) 17 && numbered rs
+numbered (r ∷ rs) = ltb (r .number) NUMBERS && numbered rs
 
 first-number : (rs : List Row) (last : ℕ) → numbered rs ≡ true → IsNumber last → IsNumber (firstOf rs last)
 first-number [] last h l = l
 first-number (r ∷ rs) last h l =
-    chosen IsNumber (r .applies) (ltb-true (r .number) 17 (and-left (ltb (r .number) 17) (numbered rs) h))
-    (first-number rs last (and-right (ltb (r .number) 17) (numbered rs) h) l)
+    chosen IsNumber (r .applies) (ltb-true (r .number) NUMBERS (and-left (ltb (r .number) NUMBERS) (numbered rs) h))
+    (first-number rs last (and-right (ltb (r .number) NUMBERS) (numbered rs) h) l)
 
 refusal-number : (b : List ℕ) (e : Event) → IsNumber (refusal b e)
 unfolding refusal
 refusal-number b e =
     let r = right (cell (e .a)) (word b CPSR) (word b SCR) in
-    let small = lt-ltb r 17 (right-number (cell (e .a)) (word b CPSR) (word b SCR)) in
-    first-number (rows b e) DONE (both {a = ltb r 17} small refl) (lit< tt)
+    let small = lt-ltb r NUMBERS (right-number (cell (e .a)) (word b CPSR) (word b SCR)) in
+    first-number (rows b e) DONE (both {a = ltb r NUMBERS} small refl) (lit< tt)
 
 -- a way that is not barred
 abbrev pub Enters : Way → Type 0
@@ -151,7 +157,7 @@ number-is b e = by (refusal b e is DONE) refl
         done-number b (e .code) (e .a) (e .b) (passed b e z) ∙ sym z
     by false h = refl
 
-pub number-small : (b : List ℕ) (e : Event) → answer b e .number < 17
+pub number-small : (b : List ℕ) (e : Event) → answer b e .number < NUMBERS
 number-small b e = rw (number-is b e) (refusal-number b e)
 
 pub number-fits : (b : List ℕ) (e : Event) → answer b e .number < 2 ^ 32

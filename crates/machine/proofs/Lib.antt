@@ -3,6 +3,7 @@ pub mod Laws
 pub mod Replay
 pub mod Numbers
 pub mod Leaving
+pub mod Denying
 pub mod Returning
 pub mod Checking
 pub mod Tabled

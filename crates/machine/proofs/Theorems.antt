@@ -10,8 +10,9 @@ use lib.ListN.{length}
 use Rattle.words.specs.Word.{word, put, Bytes}
 use Rattle.words.proofs.Laws.{word-put-other}
 use Rattle.state.specs.Field.{bits, mode-field, SCR-NS, SCR-SCD, SCR-HCE}
-use Rattle.state.specs.Mode.{spsrPlace, lrPlace}
-use Rattle.state.specs.Number.{DONE}
+use Rattle.state.specs.Choice.{_is_}
+use Rattle.state.specs.Mode.{USER, spsrPlace, lrPlace}
+use Rattle.state.specs.Number.{DONE, NO-RIGHT, OWN-REGISTER}
 use Rattle.state.specs.Place.{BLOCK-SIZE, CPSR, PC, SCR, HCR}
 use Rattle.state.specs.State.{secure, fault}
 use Rattle.entry.specs.Code.{SMC, HVC, isSynchronous, isGeneral}
@@ -21,6 +22,8 @@ use Rattle.interrupts.specs.Exception.{order}
 use Rattle.interrupts.specs.Kind.{Kind}
 use Rattle.interrupts.specs.declared.exception.Exception.{Exception}
 use Rattle.banked.specs.Cell.{cell}
+use Rattle.banked.specs.Claims.{rightFormerly}
+use Rattle.banked.specs.Right.{own}
 use Rattle.returns.specs.Level.{level}
 use Rattle.returns.specs.Return.{isIllegal, savedWord, cpsrReturned, pcReturned}
 use Rattle.rules.specs.Event.{INTERRUPT-CHECK, BANKED-READ, BANKED-WRITE, NOTE, RETURN}
@@ -29,12 +32,14 @@ use Rattle.rules.specs.Run.{run}
 use Rattle.rules.specs.Step.{ANSWER-SIZE, Take, action, vaCleared, answer, after, answerBytes, numberReturned, blockLeft, answerLeft}
 use Rattle.rules.specs.Verdict.{value, refusedWith}
 use Rattle.rules.specs.declared.event.Event.{Event}
-use Rattle.machine.specs.Claims.{FirstRow, rowsLent, EntersAsRouted, OneOf, TheFirst, CanBeTaken, EntersBy, Takes}
+use Rattle.machine.specs.Claims.{FirstRow, rowsLent, Accesses, EntersAsRouted, OneOf, TheFirst, CanBeTaken, EntersBy, Takes}
 use Rattle.machine.specs.Claims.{TakesNothing, Decided, scrLeft, hcrLeft}
 use Rattle.machine.specs.RoundTrip.{KeepsMode, back, RoundTrip}
 use Rattle.machine.proofs.Checking as checking
+use Rattle.machine.proofs.Denying as denying
 use Rattle.machine.proofs.Entering as entering
 use Rattle.machine.proofs.Goodness as goodness
+use Rattle.machine.proofs.Laws.{number-is}
 use Rattle.machine.proofs.Leaving as leaving
 use Rattle.machine.proofs.Numbers as numbers
 use Rattle.machine.proofs.Returning.{general-synchronous}
@@ -116,6 +121,26 @@ trap-first = leaving.trap-first
 
 pub hvc-enabled : (b : List ℕ) (e : Event) → refusal b e ≡ DONE → e .code ≡ HVC → SCR-HCE (word b SCR) ≡ true
 hvc-enabled = leaving.hvc-enabled
+
+-- ---- a denied access (document 02, No. 10): `Accesses` is one that hangs on its right alone
+
+module _ (b : List ℕ) (e : Event) where
+  abbrev mode : ℕ
+  mode = mode-field (word b CPSR)
+
+  -- exactly the accesses that were NO_RIGHT are now NO_RIGHT or OWN_REGISTER: nothing is newly allowed or denied
+  pub denied-exactly : ((answer b e .number ≡ NO-RIGHT) ⊎ (answer b e .number ≡ OWN-REGISTER))
+      ↔ (Accesses b e × (rightFormerly (cell (e .a)) (word b CPSR) (word b SCR) ≡ NO-RIGHT))
+  denied-exactly = rw (number-is b e) (denying.denied-exactly b e)
+
+  -- OWN_REGISTER exactly on the list of current mode registers, User's left out
+  pub own-exactly : (answer b e .number ≡ OWN-REGISTER)
+      ↔ (Accesses b e × ((mode is USER) ≡ false) × (own (cell (e .a)) mode ≡ true))
+  own-exactly = rw (number-is b e) (denying.own-exactly b e)
+
+  -- "any register from User is 7"
+  pub from-user : Accesses b e → (mode is USER) ≡ true → answer b e .number ≡ NO-RIGHT
+  from-user x h = number-is b e ∙ denying.from-user b e x h
 
 -- ---- the return (document 02, No. 9): of a step that no row refuses and whose code is 13
 

@@ -1,16 +1,18 @@
--- Words for what the theorems say of a step: the first row that applies, what can be taken at an interrupt check and which is
+-- Words for what the theorems say of a step: the first row that applies, an access that hangs on its right alone, what can be taken at an interrupt check and which is
 -- taken, what an entry leaves of SCR and HCR, and what it is to be a step.
 use mathlib.Core.Path.{_≡_}
 use mathlib.Core.Bool.{Bool, true, false, not, _&&_}
 use mathlib.Core.Logic.{_⊎_}
 use mathlib.Core.List.{List, [], _∷_}
 use Prim.Native.Nat.{ℕ, _<_, _^_}
+use lib.ListN.{length}
 use Rattle.words.specs.Word.{word, Bytes}
 use Rattle.state.specs.Choice.{if_then_else_, _is_, Row}
 use Rattle.state.specs.Field.{without, mode-field}
 use Rattle.state.specs.Mode.{MONITOR, HYP}
 use Rattle.state.specs.Number.{DONE, BAD-SIZE}
-use Rattle.state.specs.Place.{CPSR, PC, SCR, HCR}
+use Rattle.state.specs.Place.{BLOCK-SIZE, NO-PLACE, CPSR, PC, SCR, HCR}
+use Rattle.state.specs.State.{fault}
 use Rattle.entry.specs.Enter.{entered}
 use Rattle.entry.specs.Route as synchronous
 use Rattle.entry.specs.Way.{Enter}
@@ -21,7 +23,8 @@ use Rattle.interrupts.specs.Takeable.{pending, masked}
 use Rattle.interrupts.specs.declared.exception.Exception.{Exception}
 use Rattle.interrupts.specs.declared.exception.Exception.the-variants.{Synchronous, SError, Fiq, Irq}
 use Rattle.interrupts.specs.declared.exception.Exception.the-variants.{VirtualSError, VirtualFiq, VirtualIrq}
-use Rattle.rules.specs.Event.{INTERRUPT-CHECK}
+use Rattle.banked.specs.Cell.{cell}
+use Rattle.rules.specs.Event.{INTERRUPT-CHECK, isBanked, badEvent}
 use Rattle.rules.specs.Refusal.{rows}
 use Rattle.rules.specs.Step.{vaCleared, answer, after, sized, numberReturned, blockLeft, answerLeft}
 use Rattle.rules.specs.Verdict.{entryTo, answerFor}
@@ -38,6 +41,15 @@ pub data FirstRow : List Row → ℕ → Type 0 where
 -- the rows of a step over an answer buffer, row 1 being whole: "block not 176 bytes, or answer buffer not 8"
 abbrev pub rowsLent : List ℕ → Event → List ℕ → List Row
 rowsLent b e buffer = record { applies = not (sized b buffer); number = BAD-SIZE } ∷ rows b e
+
+-- ---- a banked access on a good block, with operands in their range, to a register that there is: what is left is its right
+
+pub record Accesses (b : List ℕ) (e : Event) : Type 0 where
+  pub sized : length b ≡ BLOCK-SIZE
+  pub good : fault b ≡ DONE
+  pub banked : isBanked (e .code) ≡ true
+  pub operands : badEvent (e .code) (e .a) (e .b) ≡ false
+  pub register : (cell (e .a) is NO-PLACE) ≡ false
 
 -- ---- the interrupt check: "takes an exception exactly when one is pending .. and not masked under its routing"
 

@@ -162,7 +162,7 @@ module _ (cpsr scr hcr saved : ℕ) where
         below = rw e (ltb-same (level (mode-field cpsr) (SCR-NS scr)));
         hyp = rw e (not-true _ (and-left _ _ (g .standing)));
         guest =
-        rw (e, ← ns-el1 cpsr scr) (not-true _ (and-right (not (mode-field cpsr is HYP && not (SCR-NS scr))) _ (g .standing)));
+            rw (e, ← ns-el1 cpsr scr) (not-true _ (and-right (not (mode-field cpsr is HYP && not (SCR-NS scr))) _ (g .standing)));
       })
 
   pub saved-exactly : Good cpsr scr hcr → (wordAfter cpsr scr hcr saved ≡ saved) ↔ (isIllegal cpsr scr hcr saved ≡ false)

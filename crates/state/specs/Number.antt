@@ -26,9 +26,12 @@ NO-REGISTER = 6
 abbrev pub NO-RIGHT : ℕ
 NO-RIGHT = 7
 
--- (document 02, No. 8)
+-- (document 02, Nos. 8 and 10)
 abbrev pub DISABLED : ℕ
 DISABLED = 16
+
+abbrev pub OWN-REGISTER : ℕ
+OWN-REGISTER = 17
 
 -- the checker's, which answers DONE of a trace that it accepts
 abbrev pub SHORT : ℕ

@@ -15,8 +15,10 @@ pub const NO_REGISTER: u32 = 6;
 
 pub const NO_RIGHT: u32 = 7;
 
-// (document 02, No. 8)
+// (document 02, Nos. 8 and 10)
 pub const DISABLED: u32 = 16;
+
+pub const OWN_REGISTER: u32 = 17;
 
 // The checker's (document 01, "The trace"), which answers DONE of a trace that it accepts:
 pub const SHORT: u32 = 8;

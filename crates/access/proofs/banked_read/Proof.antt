@@ -76,7 +76,7 @@ banked-read-spec =
     (λ c. c .before .before .refuse .kept .0)
     returns
     (λ c κs. let s = given (c .before) in mode-number (s .args .block .now) (s .pre .0 .2) (s .pre .1))
-    (λ c κs. tt)
+    (λ c κs. let s = asked (c .before .before) in mode-number (s .args .block .now) (s .pre .0 .2) (s .pre .1))
     (λ c κs. asked (c .before .before .before) .pre .0 .1)
     (λ c. c .before .before .refuse2 .kept .0)
     returns-2
