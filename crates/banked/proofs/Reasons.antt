@@ -75,7 +75,8 @@ allowed-before-by true false true = (λ h. absurd (unlike NO-RIGHT DONE refl h),
 allowed-before-by true false false = (λ h. h, λ h. h)
 allowed-before-by false user mine = (λ h. h, λ h. h)
 
-own-by : (not-allowed user mine : Bool) → (mine ≡ true → not-allowed ≡ true) → (by not-allowed user mine ≡ OWN-REGISTER) ↔ ((user ≡ false) × (mine ≡ true))
+own-by : (not-allowed user mine : Bool) → (mine ≡ true → not-allowed ≡ true)
+    → (by not-allowed user mine ≡ OWN-REGISTER) ↔ ((user ≡ false) × (mine ≡ true))
 own-by true true mine i = (λ h. absurd (unlike NO-RIGHT OWN-REGISTER refl h), λ h. absurd (true-is-not-false refl (h .0)))
 own-by true false true i = (λ h. (refl, refl), λ h. refl)
 own-by true false false i = (λ h. absurd (unlike NO-RIGHT OWN-REGISTER refl h), λ h. absurd (true-is-not-false (h .1) refl))

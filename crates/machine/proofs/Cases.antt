@@ -9,7 +9,8 @@ use lib.ListN.{replicate}
 use Rattle.words.specs.Word.{spelt, word, put}
 use Rattle.state.specs.Mode.{known, el1, guest, isTarget, spsrPlace, lrPlace}
 use Rattle.state.specs.Number.{DONE, BAD-STATE, BAD-EVENT, NOT-HERE, NO-REGISTER, NO-RIGHT, DISABLED, OWN-REGISTER}
-use Rattle.state.specs.Place.{BLOCK-SIZE, LR-irq, LR-svc, LR-abt, LR-mon, ELR-hyp, SPSR-svc, SPSR-mon, SPSR-hyp, CPSR, PC, SCR, HCR, VBAR-ns}
+use Rattle.state.specs.Place.{BLOCK-SIZE, LR-irq, LR-svc, LR-abt, LR-mon, ELR-hyp, SPSR-svc, SPSR-mon, SPSR-hyp, CPSR, PC, SCR}
+use Rattle.state.specs.Place.{HCR, VBAR-ns}
 use Rattle.state.specs.State.{good}
 use Rattle.entry.specs.Code.{SVC, SMC, HVC}
 use Rattle.entry.specs.Enter.{nsCleared, masksAfter, cpsrAfter, vectorBase, written, entered}

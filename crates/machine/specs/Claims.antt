@@ -1,5 +1,5 @@
--- Words for what the theorems say of a step: the first row that applies, an access that hangs on its right alone, what can be taken at an interrupt check and which is
--- taken, what an entry leaves of SCR and HCR, and what it is to be a step.
+-- Words for what the theorems say of a step: the first row that applies, an access that hangs on its right alone, what can be
+-- taken at an interrupt check and which is taken, what an entry leaves of SCR and HCR, and what it is to be a step.
 use mathlib.Core.Path.{_≡_}
 use mathlib.Core.Bool.{Bool, true, false, not, _&&_}
 use mathlib.Core.Logic.{_⊎_}

@@ -16,7 +16,9 @@ use Rattle.state.proofs.Test.{told, told-not, told-still}
 
 returns : tie.Need-returns
 unfolding known el1 illegal level
-returns c = secure-set _ _ _ (told-not (c .before .scr-ns .ensures) (c .if1 .taken)) (c .before .before .pre .0) (c .before .before .pre .1) refl
+returns c =
+    let x = c .before .before in
+    secure-set _ _ _ (told-not (c .before .scr-ns .ensures) (c .if1 .taken)) (x .pre .0) (x .pre .1) refl
 
 -- what was given, and that NS is 1, seen from where the modes above are known
 abbrev start : tie.Else1 → tie.Start
@@ -36,7 +38,9 @@ returns-2 c =
     (non-secure-set _ _ (non-secure at) (told (c .before .before .hcr-tge .ensures) (c .before .if2 .taken)) (start at .pre .0) refl)
 
 add-result-2 : tie.Need-add-result-2
-add-result-2 c = rw (c .above2 .ensures) (let small = above-small (mode-field (start (c .before .before .before) .args .cpsr)) in omega arith)
+add-result-2 c =
+    let small = above-small (mode-field (start (c .before .before .before) .args .cpsr)) in
+    rw (c .above2 .ensures) (omega (arith, small))
 
 returns-3 : tie.Need-returns-3
 unfolding known el1 illegal level
