@@ -1,5 +1,6 @@
 pub mod Stepping
 pub mod Laws
+pub mod Behind
 pub mod Replay
 pub mod Numbers
 pub mod Leaving

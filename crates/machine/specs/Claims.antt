@@ -26,7 +26,7 @@ use Rattle.interrupts.specs.declared.exception.Exception.the-variants.{VirtualS
 use Rattle.banked.specs.Cell.{cell}
 use Rattle.rules.specs.Event.{INTERRUPT-CHECK, isBanked, badEvent}
 use Rattle.rules.specs.Refusal.{rows}
-use Rattle.rules.specs.Step.{vaCleared, answer, after, sized, numberReturned, blockLeft, answerLeft}
+use Rattle.rules.specs.Step.{routedIn, vaCleared, answer, after, sized, numberReturned, blockLeft, answerLeft}
 use Rattle.rules.specs.Verdict.{entryTo, answerFor}
 use Rattle.rules.specs.declared.event.Event.{Event}
 
@@ -38,7 +38,7 @@ pub data FirstRow : List Row → ℕ → Type 0 where
   here : {r : Row} {rs : List Row} → r .applies ≡ true → FirstRow (r ∷ rs) (r .number)
   later : {r : Row} {rs : List Row} {n : ℕ} → r .applies ≡ false → FirstRow rs n → FirstRow (r ∷ rs) n
 
--- the rows of a step over an answer buffer, row 1 being whole: "block not 176 bytes, or answer buffer not 8"
+-- the rows of a step over an answer buffer, row 1 being whole: "block not 180 bytes, or answer buffer not 8"
 abbrev pub rowsLent : List ℕ → Event → List ℕ → List Row
 rowsLent b e buffer = record { applies = not (sized b buffer); number = BAD-SIZE } ∷ rows b e
 
@@ -109,13 +109,13 @@ module _ (k : Kind) (b : List ℕ) where
 module _ (b : List ℕ) (e : Event) where
   -- where the event goes, at which offset, and its link, by its routing
   abbrev pub target : ℕ
-  target = synchronous.target (e .code) (e .a) (word b CPSR) (word b SCR) (word b HCR)
+  target = synchronous.target (e .code) (routedIn b (e .code) (e .a)) (word b CPSR) (word b SCR) (word b HCR)
 
   abbrev pub offset : ℕ
-  offset = synchronous.offset (e .code) (e .a) (word b CPSR) (word b SCR) (word b HCR)
+  offset = synchronous.offset (e .code) (routedIn b (e .code) (e .a)) (word b CPSR) (word b SCR) (word b HCR)
 
   abbrev pub link : ℕ
-  link = synchronous.link (e .code) (e .a) (word b CPSR) (word b SCR) (word b HCR) (word b PC)
+  link = synchronous.link (e .code) (routedIn b (e .code) (e .a)) (word b CPSR) (word b SCR) (word b HCR) (word b PC)
 
   -- answer and block are those of that entry
   pub record EntersAsRouted : Type 0 where

@@ -1,4 +1,4 @@
--- What is proved of a trace that is judged as it arrives, for any lawful layout and for document 01's.
+-- What is proved of a trace that is judged as it arrives, for any lawful layout and for both.
 use mathlib.Core.Path.{_≡_, refl, sym, ap, _∙_}
 use mathlib.Core.Bool.{Bool, true, false}
 use mathlib.Core.Logic.{_⊎_, inl, inr, _↔_}
@@ -12,12 +12,12 @@ use Rattle.state.specs.Choice.{if_then_else_, _is_}
 use Rattle.trace.specs.declared.check.Report.{Report}
 use Rattle.trace.specs.declared.session.Progress.{Progress}
 use Rattle.trace.specs.declared.session.Session.{Session}
-use Rattle.trace.specs.Layout.{Layout, Lawful, layout01}
+use Rattle.trace.specs.Layout.{Layout, Lawful, layout}
 use Rattle.trace.specs.Published.{Published}
 use Rattle.trace.specs.Report.{report, ACCEPTED, SHORT}
 use Rattle.trace.specs.Session.{feedNumber, closing, shutting, shut, opened, fed, fedAll}
 use Rattle.trace.specs.Arrival.{joined, knownNumber, Arrival}
-use Rattle.trace.proofs.Lawful01.{lawful01}
+use Rattle.trace.proofs.Lawfuls.{lawful}
 use Rattle.trace.proofs.Faults.{differ, zero-or-not}
 use Rattle.trace.proofs.Refusals as refusals
 use Rattle.trace.proofs.Feeding.{dead, dead-closed, fed-cut, fed-dead}
@@ -95,5 +95,5 @@ module _ (L : Layout) (LL : Lawful L) where
         shut-again = λ s. refl;
       }
 
-pub arrival01 : Arrival layout01
-arrival01 = arrival layout01 lawful01
+pub arrival-of : (old : Bool) → Arrival (layout old)
+arrival-of old = arrival (layout old) (lawful old)

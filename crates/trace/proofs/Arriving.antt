@@ -21,7 +21,7 @@ use Rattle.trace.specs.Report.{unless, _else_, refused, headNumber, star
 use Rattle.trace.specs.Published.{stepRecord}
 use Rattle.trace.specs.Report.{report, sameBytes, eventOf, ACCEPTED, SHORT, BAD-RECORD, BAD-COUNT, WRONG-STEP, TRAILING}
 use Rattle.trace.specs.Claims.{startOf}
-use Rattle.trace.specs.Session.{AT-START, AT-NEXT, OVER, session, isOver, closing, closeNumber, due, dueSize, dueKind}
+use Rattle.trace.specs.Session.{AT-START, OVER, session, isOver, closing, closeNumber, due, dueSize, dueKind}
 use Rattle.trace.specs.Session.{dueNumber, nothingHeld, opened}
 use Rattle.trace.specs.Session.{faulty, judged, grown, fed}
 use Rattle.trace.specs.Fed.{Takes}
@@ -193,7 +193,7 @@ module _ (L : Layout) (LL : Lawful L) where
   -- k right Steps of n have come, up to the block b; and after all of them the End
   abbrev pub between : (n k : ℕ) → List ℕ → Session
   between n k b =
-      session (record { stage = AT-NEXT; count = n; steps = k; place = placeOf L k; held = 0; fault = 0; closed = 0 }) b
+      session (record { stage = L .next; count = n; steps = k; place = placeOf L k; held = 0; fault = 0; closed = 0 }) b
       (nothingHeld L)
 
   abbrev pub past : (n k : ℕ) → List ℕ → Session
@@ -208,7 +208,7 @@ module _ (L : Layout) (LL : Lawful L) where
   between-ready n k b =
       let l = due-least L (between n k b .progress) in
       record {
-        takes = record { live = refl; going = refl; room = omega (arith, l) };
+        takes = record { live = refl; going = lt-leb OVER (L .next) (LL .next-going); room = omega (arith, l) };
         still = refl;
         sound = refl;
         none = refl;
@@ -232,12 +232,12 @@ module _ (L : Layout) (LL : Lawful L) where
       mod-eq-of-lt (omega (arith, LL .step-fits)) ∙ (let m = mul-zero (stepSize L) in omega (arith, m)) in
       judged-right L (opened L) s z
       ∙ (λ i. session
-      (record { stage = AT-NEXT; count = spelt s countAt; steps = 0; place = place i; held = 0; fault = 0; closed = 0 })
+      (record { stage = L .next; count = spelt s countAt; steps = 0; place = place i; held = 0; fault = 0; closed = 0 })
       (startOf L s) (nothingHeld L))
 
   module _ (n k : ℕ) (b r : List ℕ) (few′ : n ≤ mostSteps) where
-    not-start : AT-NEXT ≡ AT-START → ⊥
-    not-start e = omega arith
+    not-start : L .next ≡ AT-START → ⊥
+    not-start = LL .next-behind
 
     abbrev q : Progress
     q = between n k b .progress
@@ -256,7 +256,7 @@ module _ (L : Layout) (LL : Lawful L) where
         judged-right L (between n k b) r (step-number l ∙ z)
         ∙ (λ i. session
         (record {
-          stage = due-step q AT-NEXT AT-NEXT OVER not-start l i;
+          stage = due-step q (L .next) (L .next) OVER not-start l i;
           count = due-step q (spelt r countAt) n n not-start l i;
           steps = due-step q 0 (k + 1) k not-start l i;
           place = place i;
@@ -277,7 +277,7 @@ module _ (L : Layout) (LL : Lawful L) where
         judged-right L (between n k b) r (end-number l ∙ z)
         ∙ (λ i. session
         (record {
-          stage = due-end q AT-NEXT AT-NEXT OVER not-start l i;
+          stage = due-end q (L .next) (L .next) OVER not-start l i;
           count = due-end q (spelt r countAt) n n not-start l i;
           steps = due-end q 0 (k + 1) k not-start l i;
           place = place i;

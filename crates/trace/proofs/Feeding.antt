@@ -73,7 +73,7 @@ count-stays p r h = go (ltb (p .steps) (p .count)) ∙ sym (simp (ne-eqb (p .sta
     go false = refl
 
 -- the session that the next record is due in, part by part
-pub advancing-is : (L : Layout) (p : Progress) (stage count steps place : ℕ) → stage ≡ dueStage p → steps ≡ dueSteps p
+pub advancing-is : (L : Layout) (p : Progress) (stage count steps place : ℕ) → stage ≡ dueStage L p → steps ≡ dueSteps p
     → place ≡ (p .place + dueSize L p) % 2 ^ 32
     → record {
       stage = stage;

@@ -293,10 +293,10 @@ module _ (L : Layout) (LL : Lawful L) where
       let q = between L LL n k b .progress in
       let place : ℕ = placeOf L k in
       let number : dueNumber L q b r ≡ endNumber k r = end-number L LL n k b r h l in
-      let size : dueSize L q ≡ endSize = due-end q (startSize L) (stepSize L) endSize (λ z. omega arith) l in
+      let size : dueSize L q ≡ endSize = due-end q (startSize L) (stepSize L) endSize (LL .next-behind) l in
       subst (λ (x : ℕ). Knows L n (between L LL n k b) r (refused x place k (tail k place r))) number
       (record-knows L n (between L LL n k b) (between-ready L LL n k b) r (tail k place r)
-      (λ x. simp (ne-eqb place 0 (λ z. omega arith), le-ltb k n l))
+      (λ x. simp (ne-eqb place 0 (λ z. omega arith), ne-eqb (L .next) 0 (LL .next-behind), le-ltb k n l))
       (λ z. let y : endNumber k r ≡ 0 = sym number ∙ z in
       let on = end-on L LL n k b r h l (omega arith) y in (
         omega (arith, size, known-place n (tail k place r), tail-place k place r),
@@ -310,12 +310,12 @@ module _ (L : Layout) (LL : Lawful L) where
       let q = between L LL n k b .progress in
       let place : ℕ = placeOf L k in
       let number : dueNumber L q b r ≡ stepNumber L b r = step-number L LL n k b r h l in
-      let size : dueSize L q ≡ stepSize L = due-step q (startSize L) (stepSize L) endSize (λ z. omega arith) l in
+      let size : dueSize L q ≡ stepSize L = due-step q (startSize L) (stepSize L) endSize (LL .next-behind) l in
       let c : List ℕ = L .after b (eventOf r) in
       let rest : Report = reportFrom L m (k + 1) c (drop (stepSize L) r) in
       subst (λ (x : ℕ). Knows L n (between L LL n k b) r (refused x place k rest)) number
       (record-knows L n (between L LL n k b) (between-ready L LL n k b) r rest
-      (λ x. simp (ne-eqb place 0 (λ z. omega arith), lt-ltb k n l))
+      (λ x. simp (ne-eqb place 0 (λ z. omega arith), ne-eqb (L .next) 0 (LL .next-behind), lt-ltb k n l))
       (λ z. let on = step-on L LL n k b r h l (sym number ∙ z) in (
         omega (arith, size, known-place n rest, from-place m (k + 1) c (drop (stepSize L) r), next-place L LL k),
         ap (λ (t : Session). t .progress .place) on ∙ next-place L LL k ∙ sym (ap (λ (x : ℕ). place + x) size),

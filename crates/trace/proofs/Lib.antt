@@ -1,5 +1,5 @@
 pub mod Faults
-pub mod Lawful01
+pub mod Lawfuls
 pub mod Records
 pub mod Judging
 pub mod Accepts

@@ -1,7 +1,7 @@
 -- What a feeding takes of a run at once, and that it is what the bytes do one by one: bytes of one record that are held, all of a
 -- run that changes nothing, a whole record where it lies, and many Steps.
 use mathlib.Core.Path.{_≡_, refl, sym, ap, _∙_, subst}
-use mathlib.Core.Bool.{true}
+use mathlib.Core.Bool.{true, false}
 use mathlib.Core.Logic.{_⊎_, inl, inr}
 use mathlib.Core.List.{List, [], _++_, append-assoc}
 use Prim.Native.Nat.{ℕ, zero, suc, _+_, _-_, _*_, _%_, _<_, _≤_, _^_}
@@ -18,7 +18,7 @@ use Rattle.trace.specs.declared.session.Progress.{Progress}
 use Rattle.trace.specs.declared.session.Session.{Session}
 use Rattle.trace.specs.Layout.{Layout, headSize, startSize, stepSize, endSize, lengthAt, kindAt}
 use Rattle.trace.specs.Report.{unless, _else_, headNumber, eventOf, SHORT, BAD-RECORD}
-use Rattle.trace.specs.Session.{AT-START, AT-NEXT, OVER, session, isLive, holding, due, dueSize, dueKind}
+use Rattle.trace.specs.Session.{AT-START, OVER, session, isLive, isOver, holding, due, dueSize, dueKind}
 use Rattle.trace.specs.Session.{dueNumber, advancing, nothingHeld}
 use Rattle.trace.specs.Session.{faulty, unlessFaulty, advanced, judged, looked, grown, fed}
 use Rattle.trace.specs.declared.judgements.Run.{Run}
@@ -252,7 +252,8 @@ module _ (L : Layout) where
   -- so many bytes were taken, whole right Steps all of them, and so many whole Steps are left
   pub record Stepping (s : Session) (r : List ℕ) (q : Progress) (b : List ℕ) (taken left : ℕ) : Type 0 where
     pub live : isLive q ≡ true
-    pub next : q .stage ≡ AT-NEXT
+    pub behind : q .stage ≡ AT-START → ⊥
+    pub going : isOver q ≡ false
     pub none : q .held ≡ 0
     pub few : q .steps + left ≤ q .count
     pub within : taken + stepSize L * left ≤ length r
@@ -293,25 +294,21 @@ module _ (L : Layout) where
       → Stepping (session p b (nothingHeld L)) r p b 0 left
   stepping-none p b r left takes none e z few within =
       let d = step-due p e in
-      let under = leb-false OVER (p .stage) (takes .going) in
       record {
         live = takes .live;
-        next = one (p .stage) (d .0) under;
+        behind = d .0;
+        going = takes .going;
         none = none;
         few = omega (arith, d .1);
         within = omega arith;
         some = omega arith;
         same = refl;
       }
-    where
-      one : (n : ℕ) → (n ≡ AT-START → ⊥) → n < OVER → n ≡ AT-NEXT
-      one zero h l = absurd (h refl)
-      one (suc n) h l = omega arith
 
   module _ (s : Session) (r : List ℕ) (q : Progress) (b : List ℕ) (taken left : ℕ) (at : Stepping s r q b taken left)
       (z : 0 < left) where
     not-start : q .stage ≡ AT-START → ⊥
-    not-start e = omega (arith, at .next)
+    not-start = at .behind
 
     more : q .steps < q .count
     more = omega (arith, at .few)
@@ -337,7 +334,7 @@ module _ (L : Layout) where
     takes-step =
         record {
           live = at .live;
-          going = ap (leb OVER) (at .next);
+          going = at .going;
           room = omega (arith, at .none, size-due);
         }
 
@@ -359,7 +356,7 @@ module _ (L : Layout) where
           let once : stepSize L * 1 ≡ stepSize L = (let m = mul-suc (stepSize L) 0 in omega (arith, m, mul-zero (stepSize L))) in
           let behind : stepped L 1 q ≡ advancing L q (q .count) =
           (λ i. record {
-            stage = (at .next ∙ sym (due-step q AT-NEXT AT-NEXT OVER not-start more)) i;
+            stage = sym (due-step q (L .next) (q .stage) OVER not-start more) i;
             count = q .count;
             steps = sym (due-step q 0 (q .steps + 1) (q .steps) not-start more) i;
             place = (q .place + (once ∙ sym size-due) i) % 2 ^ 32;
@@ -369,7 +366,8 @@ module _ (L : Layout) where
           }) in
           record {
             live = at .live;
-            next = at .next;
+            behind = at .behind;
+            going = at .going;
             none = at .none;
             few = omega (arith, at .few);
             within = omega (arith, at .within, one-less);

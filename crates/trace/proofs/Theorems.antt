@@ -1,11 +1,13 @@
--- The theorems of any lawful layout, each proved in the file that it cites, and those of document 01's.
+-- The theorems of any lawful layout, each proved in the file that it cites, and those of both layouts.
+use mathlib.Core.Bool.{Bool, true, false}
 use mathlib.Core.List.{List}
 use Prim.Native.Nat.{ℕ, _≤_}
+use native.Mathlib.Omega.{arith}
 use Rattle.words.specs.Word.{Bytes}
-use Rattle.trace.specs.Layout.{Layout, Lawful, layout01}
+use Rattle.trace.specs.Layout.{Layout, Lawful, layout}
 use Rattle.trace.specs.Report.{report}
 use Rattle.trace.specs.Theorems.{Theorems}
-use Rattle.trace.proofs.Lawful01.{lawful01}
+use Rattle.trace.proofs.Lawfuls.{lawful}
 use Rattle.trace.proofs.Accepts as accepts
 use Rattle.trace.proofs.Refusals as refusals
 use Rattle.trace.proofs.Changes as changes
@@ -41,9 +43,10 @@ theorems L l =
       not-blind = checkers.not-blind L l;
     }
 
-pub theorems01 : Theorems layout01
-theorems01 = theorems layout01 lawful01
+pub theorems-of : (old : Bool) → Theorems (layout old)
+theorems-of old = theorems (layout old) (lawful old)
 
--- the place of any report is at most 13,107,192, so that a word holds it
-pub place-fits : (s : List ℕ) → Bytes s → report layout01 s .place ≤ 13107192
-place-fits s by = theorems01 .says s by .place-fits
+-- the place of any report is at most 13,369,336, so that a word holds it
+pub place-fits : (old : Bool) (s : List ℕ) → Bytes s → report (layout old) s .place ≤ 13369336
+place-fits true s by = omega (arith, theorems-of true .says s by .place-fits)
+place-fits false s by = theorems-of false .says s by .place-fits

@@ -1,6 +1,6 @@
 -- What the parts of feeding go by and what they leave.
 use mathlib.Core.Path.{_≡_}
-use mathlib.Core.Bool.{true, false}
+use mathlib.Core.Bool.{Bool, true, false}
 use mathlib.Core.List.{List}
 use Prim.Native.Nat.{ℕ, zero, suc, _+_, _*_, _%_, _<_, _≤_, _^_}
 use lib.ListN.{length, drop}
@@ -8,10 +8,14 @@ use lib.Dec.{leb, ltb}
 use Rattle.state.specs.Choice.{if_then_else_, _is_}
 use Rattle.trace.specs.declared.session.Progress.{Progress}
 use Rattle.trace.specs.declared.session.Session.{Session}
-use Rattle.trace.specs.Layout.{Layout, headSize, stepSize}
+use Rattle.trace.specs.Layout.{Layout, layout, headSize, stepSize}
 use Rattle.trace.specs.Report.{ACCEPTED, headNumber}
 use Rattle.trace.specs.Session.{session, isLive, isOver, refusing, noBlock, nothingHeld, dueSize, dueNumber, dueBlock}
 use Rattle.trace.specs.Session.{dueKind, advancing, unlessFaulty, judged, fed}
+
+-- a block and a record of the layout's sizes
+abbrev pub Room : Bool → List ℕ → List ℕ → Type 0
+Room old b u = (length b ≡ layout old .size) × (length u ≡ stepSize (layout old))
 
 -- the record due stands at the front of r, b is the block before, n the number and c what the block became
 pub record Due (L : Layout) (p : Progress) (r b : List ℕ) (n : ℕ) (c : List ℕ) : Type 0 where

@@ -1,28 +1,73 @@
 -- The layout of a trace (document 01, "The trace"): what its records' sizes and kinds are, and by which rules its Steps go.
 --
--- All that is said of traces is said of any layout. Document 01's is layout01; another one is another value of Layout,
--- and of Lawful, which has what the theorems ask of it.
+-- All that is said of traces is said of any layout, which is a value of Layout, and of Lawful, which has what the theorems ask of
+-- it. There are two (document 02, No. 11).
 use mathlib.Core.Path.{_≡_}
-use mathlib.Core.List.{List}
+use mathlib.Core.Bool.{Bool, true, false, not, _&&_}
+use mathlib.Core.List.{List, _++_}
 use Prim.Native.Nat.{ℕ, _+_, _*_, _<_, _^_}
-use lib.ListN.{length}
-use Rattle.words.specs.Word.{Bytes}
-use Rattle.state.specs.Place.{BLOCK-SIZE}
+use lib.ListN.{length, take}
+use lib.Dec.{leb}
+use Rattle.words.specs.Word.{half, le32, Bytes}
+use Rattle.state.specs.Choice.{if_then_else_, _is_}
+use Rattle.state.specs.Place.{BLOCK-SIZE, OLD-BLOCK-SIZE}
 use Rattle.rules.specs.declared.event.Event.{Event}
 use Rattle.rules.specs.declared.verdict.Answer.{Answer}
+use Rattle.rules.specs.Known.{seen}
 use Rattle.rules.specs.Step.{answer, after}
 
--- the bytes of a block, the kinds of a Start and of a Step, and the rules: what an event answers, and the block after it
+-- the stages of a session: the Start is due; nothing more, which any higher number says too. Behind a Start stands that of its layout
+abbrev pub AT-START : ℕ
+AT-START = 0
+
+abbrev pub OVER : ℕ
+OVER = 3
+
+-- the bytes of a block, the kinds of a Start and of a Step, the stage of a session that waits for a Step or the End, and the rules:
+-- what an event answers, and the block after it
 pub record Layout : Type 0 where
   pub size : ℕ
   pub startKind : ℕ
   pub stepKind : ℕ
+  pub next : ℕ
   pub answer : List ℕ → Event → Answer
   pub after : List ℕ → Event → List ℕ
 
--- document 01's: blocks of 176 bytes, Start of kind 1, Step of kind 2, and the rules of the step
-abbrev pub layout01 : Layout
-layout01 = record { size = BLOCK-SIZE; startKind = 1; stepKind = 2; answer = answer; after = after }
+-- ---- the two layouts
+
+-- an old block as the machine has it: "with HDCR 0"
+abbrev pub withHdcr0 : List ℕ → List ℕ
+withHdcr0 b = b ++ le32 0
+
+-- the old one is document 01's: blocks of 176 bytes, Start of kind 1, Step of kind 2. "Kinds 1 and 2 are still read, with HDCR 0,
+-- and there debug and notes on place 44 are BAD_EVENT"
+abbrev pub oldLayout : Layout
+oldLayout =
+    record {
+      size = OLD-BLOCK-SIZE;
+      startKind = 1;
+      stepKind = 2;
+      next = 1;
+      answer = λ b e. answer (withHdcr0 b) (seen true e);
+      after = λ b e. take OLD-BLOCK-SIZE (after (withHdcr0 b) (seen true e));
+    }
+
+-- "Traces with the new block use Start kind 4 (188 bytes) and Step kind 5 (204)"
+abbrev pub newLayout : Layout
+newLayout =
+    record {
+      size = BLOCK-SIZE;
+      startKind = 4;
+      stepKind = 5;
+      next = 2;
+      answer = λ b e. answer b (seen false e);
+      after = λ b e. after b (seen false e);
+    }
+
+-- the old one, or the new
+abbrev pub layout : Bool → Layout
+layout true = oldLayout
+layout false = newLayout
 
 -- ---- sizes of records
 
@@ -30,11 +75,11 @@ layout01 = record { size = BLOCK-SIZE; startKind = 1; stepKind = 2; answer = ans
 abbrev pub headSize : ℕ
 headSize = 4
 
--- Start (184 in document 01): head, step count, block
+-- Start (184 bytes, or 188): head, step count, block
 abbrev pub startSize : Layout → ℕ
 startSize L = 8 + L .size
 
--- Step (200 in document 01): head, code, A, B, answer, value, block after
+-- Step (200 bytes, or 204): head, code, A, B, answer, value, block after
 abbrev pub stepSize : Layout → ℕ
 stepSize L = 24 + L .size
 
@@ -88,6 +133,15 @@ valueAt = 20
 abbrev pub blockAfterAt : ℕ
 blockAfterAt = 24
 
+-- ---- which layout a string has
+
+-- it goes by the kind of its Start; what has no head of the new one is old
+unfoldable pub isOld : List ℕ → Bool
+isOld s = not (leb headSize (length s) && half s kindAt is newLayout .startKind)
+
+abbrev pub layoutOf : List ℕ → Layout
+layoutOf s = layout (isOld s)
+
 -- ---- what the theorems ask of a layout
 
 pub record Lawful (L : Layout) : Type 0 where
@@ -95,6 +149,9 @@ pub record Lawful (L : Layout) : Type 0 where
   pub step-fits : stepSize L < 2 ^ 16
   pub start-kind-fits : L .startKind < 2 ^ 16
   pub step-kind-fits : L .stepKind < 2 ^ 16
+  -- its stage is none of the two others
+  pub next-behind : L .next ≡ AT-START → ⊥
+  pub next-going : L .next < OVER
   -- from a block of the layout's size a Step leaves one of that size, and its answer is two words; nothing is asked of
   -- the rules on other blocks
   pub length-after : (b : List ℕ) (e : Event) → length b ≡ L .size → length (L .after b e) ≡ L .size

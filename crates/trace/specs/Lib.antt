@@ -1,6 +1,7 @@
 pub mod Layout
 pub mod Published
 pub mod Report
+pub mod Either
 pub mod Judged
 pub mod Session
 pub mod Fed

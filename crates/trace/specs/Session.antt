@@ -3,8 +3,8 @@
 -- A byte is held until its record is whole. The fourth one shows whether the record is the one due, the last one whether it is
 -- right. A right record is forgotten, but for the block that it leaves; once a fault is known nothing is kept but the numbers.
 -- All that is said here is said of any session, also of one that no opening and no feeding made.
-use mathlib.Core.Bool.{Bool, _&&_}
-use mathlib.Core.List.{List, [], _∷_}
+use mathlib.Core.Bool.{Bool, not, _&&_}
+use mathlib.Core.List.{List, [], _∷_, _++_}
 use Prim.Native.Nat.{ℕ, zero, suc, _+_, _%_, _^_}
 use lib.ListN.{length, take, drop, replicate}
 use lib.Seq.{sets}
@@ -14,7 +14,9 @@ use Rattle.state.specs.Choice.{if_then_else_, _is_}
 use Rattle.trace.specs.declared.check.Report.{Report}
 use Rattle.trace.specs.declared.session.Progress.{Progress}
 use Rattle.trace.specs.declared.session.Session.{Session}
-use Rattle.trace.specs.Layout.{Layout, headSize, startSize, stepSize, endSize, endKind, countAt, startBlockAt}
+use Rattle.trace.specs.Layout.{Layout, layout, newLayout, headSize, startSize, stepSize, endSize, endKind, countAt, startBlockAt}
+use Rattle.trace.specs.Layout.{isOld}
+pub use Rattle.trace.specs.Layout.{AT-START, OVER}
 use Rattle.trace.specs.Report.{unless, _else_, headNumber, startNumber, stepNumber, endNumber, eventOf, SHORT, TRAILING}
 pub use Rattle.state.specs.Number.{CLOSED}
 
@@ -22,16 +24,6 @@ pub use Rattle.state.specs.Number.{CLOSED}
 
 abbrev pub session : Progress → List ℕ → List ℕ → Session
 session p b u = record { progress = p; block = b; unfinished = u }
-
--- the stages: the Start is due; a Step is, or behind the last one the End; nothing more, which any higher number says too
-abbrev pub AT-START : ℕ
-AT-START = 0
-
-abbrev pub AT-NEXT : ℕ
-AT-NEXT = 1
-
-abbrev pub OVER : ℕ
-OVER = 2
 
 abbrev pub isOver : Progress → Bool
 isOver p = leb OVER (p .stage)
@@ -81,10 +73,7 @@ shutting p =
 abbrev pub due : {A : Type 0} → Progress → A → A → A → A
 due p start step end = if p .stage is AT-START then start else if ltb (p .steps) (p .count) then step else end
 
--- the stage, n and Steps that it leaves where it is right, r being its bytes
-abbrev pub dueStage : Progress → ℕ
-dueStage p = due p AT-NEXT AT-NEXT OVER
-
+-- n and Steps that it leaves where it is right, r being its bytes
 abbrev pub dueCount : Progress → List ℕ → ℕ
 dueCount p r = due p (spelt r countAt) (p .count) (p .count)
 
@@ -133,7 +122,10 @@ module _ (L : Layout) where
   abbrev pub dueNumber : Progress → List ℕ → List ℕ → ℕ
   dueNumber p b r = due p (startNumber L r) (stepNumber L b r) (endNumber (p .steps) r)
 
-  -- the block that it leaves where nothing is, and the numbers, with n
+  -- the stage and the block that it leaves where nothing is, and the numbers, with n
+  abbrev pub dueStage : Progress → ℕ
+  dueStage p = due p (L .next) (p .stage) OVER
+
   abbrev pub dueBlock : Progress → List ℕ → List ℕ → List ℕ
   dueBlock p b r = due p (take (L .size) (drop startBlockAt r)) (L .after b (eventOf r)) b
 
@@ -200,3 +192,33 @@ module _ (L : Layout) where
   unfoldable pub fedAll : Session → List (List ℕ) → Session
   fedAll s [] = s
   fedAll s (r ∷ rs) = fedAll (fed s r) rs
+
+-- ---- a session of either layout (document 02, No. 11): its block and its record have room for the larger one. What lies behind those
+-- of its own layout stays as it was, until a fault is known
+
+abbrev pub openedSession : Session
+openedSession = opened newLayout
+
+-- the layout in which the bytes r come: while the Start is due, that of the Start which they go on with; then that of the stage
+abbrev pub comesOld : Progress → List ℕ → List ℕ → Bool
+comesOld p u r = if p .stage is AT-START then isOld (take (p .held) u ++ r) else not (p .stage is newLayout .next)
+
+-- a session as its layout has it, and back
+abbrev pub narrowed : Bool → Session → Session
+narrowed old s =
+    session (s .progress) (take (layout old .size) (s .block)) (take (stepSize (layout old)) (s .unfinished))
+
+abbrev pub widened : Bool → Session → Session → Session
+widened old s t =
+    session (t .progress) (t .block ++ drop (layout old .size) (s .block))
+    (t .unfinished ++ drop (stepSize (layout old)) (s .unfinished))
+
+-- "nothing is kept but the numbers"
+abbrev pub numbersOf : Session → Session
+numbersOf t = session (t .progress) (noBlock newLayout) (nothingHeld newLayout)
+
+unfoldable pub fedSession : Session → List ℕ → Session
+fedSession s r =
+    let old = comesOld (s .progress) (s .unfinished) r in
+    let t = fed (layout old) (narrowed old s) r in
+    if s .progress .fault is 0 && not (t .progress .fault is 0) then numbersOf t else widened old s t

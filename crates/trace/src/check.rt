@@ -4,6 +4,10 @@ use crate::judgements::judge_end;
 use crate::judgements::judge_start;
 use crate::judgements::judge_steps;
 use crate::layout;
+use crate::layout::block_size;
+use crate::layout::is_old;
+use crate::layout::place_of;
+use crate::layout::start_size;
 use state::number::TRAILING;
 use state::place;
 use words::word_at;
@@ -11,8 +15,8 @@ ghost use mathlib.Core.Path.{_≡_};
 ghost use mathlib.Core.Logic.{_↔_};
 ghost use Prim.Native.Nat.{_+_, _≤_, _<_, _^_};
 ghost use lib.ListN.{length, drop};
-ghost use Rattle.trace.specs.Layout.{layout01, startSize, endSize, mostSteps};
-ghost use Rattle.trace.specs.Published.{Published};
+ghost use Rattle.trace.specs.Layout.{layout, startSize, endSize, mostSteps};
+ghost use Rattle.trace.specs.Either.{reportOf, PublishedInOne};
 ghost use Rattle.trace.specs.Report.{endReport, reportFrom, report};
 
 // What the checker answers: a number, the place, and the Steps found right before it.
@@ -51,12 +55,12 @@ fn finish(r: &[u8], steps: u32, place: u32) -> Report
 }
 
 // The Steps and the End, from the block of a right Start that counts this many Steps.
-fn judge_rest(trace: &[u8], steps: u32, block: &mut [u8; place::BLOCK_SIZE]) -> Report
-    requires { ⌜ (steps ≤ mostSteps) × (startSize layout01 ≤ length (now trace)) ⌝ }
-    ensures { λ v. ⌜ v ≡ reportFrom layout01 steps 0 (now (block .entry)) (drop (startSize layout01) (now (trace .entry))) ⌝ }
+fn judge_rest(old: bool, trace: &[u8], steps: u32, block: &mut [u8]) -> Report
+    requires { ⌜ (steps ≤ mostSteps) × (startSize (layout old) ≤ length (now trace)) × (length (now block) ≡ layout old .size) ⌝ }
+    ensures { λ v. ⌜ v ≡ reportFrom (layout old) steps 0 (now (block .entry)) (drop (startSize (layout old)) (now (trace .entry))) ⌝ }
 {
-    let run = judge_steps(&trace[layout::START_SIZE as usize..], steps, block);
-    let place = layout::START_SIZE + layout::STEP_SIZE * run.right;
+    let run = judge_steps(old, &trace[start_size(old) as usize..], steps, block);
+    let place = place_of(old, run.right);
     if run.fault != ACCEPTED {
         return Report {
             number: run.fault,
@@ -68,12 +72,11 @@ fn judge_rest(trace: &[u8], steps: u32, block: &mut [u8; place::BLOCK_SIZE]) -> 
     finish(&trace[at..], steps, place)
 }
 
-// The report on any bytes; number 0 exactly on a published trace.
-pub fn check(trace: &[u8]) -> Report
-    ensures report { λ v. ⌜ v ≡ report layout01 (now (trace .entry)) ⌝ }
-    ensures exact { λ v. ⌜ (v .number ≡ 0) ↔ Published layout01 (now (trace .entry)) ⌝ }
+// The report by the rules of a layout.
+fn check_in(old: bool, trace: &[u8]) -> Report
+    ensures { λ v. ⌜ v ≡ report (layout old) (now (trace .entry)) ⌝ }
 {
-    let fault = judge_start(trace);
+    let fault = judge_start(old, trace);
     if fault != ACCEPTED {
         return Report {
             number: fault,
@@ -83,9 +86,18 @@ pub fn check(trace: &[u8]) -> Report
     }
     let steps = word_at(trace, layout::COUNT);
     let mut block = [0u8; place::BLOCK_SIZE];
+    let start = &mut block[..block_size(old)];
     bytes::copy(
-        &trace[layout::START_BLOCK..layout::START_SIZE as usize],
-        &mut block,
+        &trace[layout::START_BLOCK..start_size(old) as usize],
+        start,
     );
-    judge_rest(trace, steps, &mut block)
+    judge_rest(old, trace, steps, start)
+}
+
+// The report on any bytes, in the layout of their Start; number 0 exactly on a published trace of either layout.
+pub fn check(trace: &[u8]) -> Report
+    ensures report { λ v. ⌜ v ≡ reportOf (now (trace .entry)) ⌝ }
+    ensures exact { λ v. ⌜ (v .number ≡ 0) ↔ PublishedInOne (now (trace .entry)) ⌝ }
+{
+    check_in(is_old(trace), trace)
 }

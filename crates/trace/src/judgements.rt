@@ -1,6 +1,14 @@
 // What is said of a Start, of a Step and of an End, each by the rest of the trace from the record's first byte on: the
 // fault's number, or ACCEPTED.
 use crate::layout;
+use crate::layout::block_size;
+use crate::layout::start_kind;
+use crate::layout::start_size;
+use crate::layout::step_kind;
+use crate::layout::step_size;
+use entry::code::NOTE;
+use entry::code::PREFETCH_ABORT;
+use entry::route::is_debug;
 use machine::step::ANSWER_SIZE;
 use machine::step::replay;
 use state::number::BAD_COUNT;
@@ -8,7 +16,9 @@ use state::number::BAD_RECORD;
 use state::number::DONE;
 use state::number::SHORT;
 use state::number::WRONG_STEP;
+use state::place;
 use state::place::BLOCK_SIZE;
+use state::place::OLD_BLOCK_SIZE;
 use words::get_word;
 use words::word_at;
 ghost use mathlib.Core.Path.{_≡_};
@@ -18,12 +28,18 @@ ghost use Prim.Native.Nat.{_≤_, _<_, _^_};
 ghost use lib.ListN.{length};
 ghost use Rattle.words.specs.Word.{word};
 ghost use Rattle.rules.specs.Step.{ANSWER-SIZE};
-ghost use Rattle.trace.specs.Layout.{layout01, stepSize};
+ghost use Rattle.state.specs.Place.{BLOCK-SIZE};
+ghost use Rattle.trace.specs.Layout.{layout, stepSize};
 ghost use Rattle.trace.specs.Report.{headNumber, startNumber, endNumber};
-ghost use Rattle.trace.specs.Judged.{Shows, Judged, Went};
+ghost use Rattle.trace.specs.Judged.{narrow, IsWide, SeenCode, Shows, JudgedWide, Went};
 
 // The number of a record, and of a trace, without a fault.
 pub(crate) const ACCEPTED: u32 = DONE;
+
+// A code that is none, and the place of HDCR as an operand.
+const NO_CODE: u32 = 0;
+
+const HDCR_PLACE: u32 = place::HDCR as u32;
 
 // The head of the record due, of this size and kind. Its two halves are compared as one word.
 pub(crate) fn judge_head(r: &[u8], size: u32, kind: u32) -> u32
@@ -42,10 +58,10 @@ pub(crate) fn judge_head(r: &[u8], size: u32, kind: u32) -> u32
     ACCEPTED
 }
 
-pub(crate) fn judge_start(r: &[u8]) -> u32
-    ensures { λ n. ⌜ n ≡ startNumber layout01 (now (r .entry)) ⌝ }
+pub(crate) fn judge_start(old: bool, r: &[u8]) -> u32
+    ensures { λ n. ⌜ n ≡ startNumber (layout old) (now (r .entry)) ⌝ }
 {
-    let fault = judge_head(r, layout::START_SIZE, layout::START_KIND);
+    let fault = judge_head(r, start_size(old), start_kind(old));
     if fault != ACCEPTED {
         return fault;
     }
@@ -55,12 +71,33 @@ pub(crate) fn judge_start(r: &[u8]) -> u32
     ACCEPTED
 }
 
-// Whether a whole Step shows the answer in this buffer and this block after.
-fn shows(r: &[u8], answer: &[u8], block: &[u8]) -> bool
-    requires { ⌜ (stepSize layout01 ≤ length (now r)) × (length (now answer) ≡ ANSWER-SIZE)
-        × (length (now block) ≡ layout01 .size) ⌝ }
-    ensures { λ t. ⌜ (t ≡ true) ↔ Shows layout01 (now (r .entry))
-        (record { number = word (now (answer .entry)) 0; value = word (now (answer .entry)) 1 }) (now (block .entry)) ⌝ }
+// The code of an event as the layout sees it: one that it does not know is none.
+fn seen_code(old: bool, code: u32, a: u32) -> u32
+    ensures { λ n. ⌜ SeenCode old code a n ⌝ }
+{
+    if !old {
+        return code;
+    }
+    if code == PREFETCH_ABORT {
+        if is_debug(a) {
+            return NO_CODE;
+        }
+        return code;
+    }
+    if code == NOTE {
+        if a == HDCR_PLACE {
+            return NO_CODE;
+        }
+    }
+    code
+}
+
+// Whether a whole Step shows the answer in this buffer and, of this block of the machine's, what its layout has.
+fn shows(old: bool, r: &[u8], answer: &[u8], block: &[u8]) -> bool
+    requires { ⌜ (stepSize (layout old) ≤ length (now r)) × (length (now answer) ≡ ANSWER-SIZE)
+        × (length (now block) ≡ BLOCK-SIZE) ⌝ }
+    ensures { λ t. ⌜ (t ≡ true) ↔ Shows (layout old) (now (r .entry))
+        (record { number = word (now (answer .entry)) 0; value = word (now (answer .entry)) 1 }) (narrow old (now (block .entry))) ⌝ }
 {
     if word_at(r, layout::NUMBER) != get_word(answer, rules::answer::NUMBER) {
         return false;
@@ -68,27 +105,29 @@ fn shows(r: &[u8], answer: &[u8], block: &[u8]) -> bool
     if word_at(r, layout::VALUE) != get_word(answer, rules::answer::VALUE) {
         return false;
     }
+    if old {
+        return words::runs::same(
+            &r[layout::BLOCK_AFTER..layout::OLD_STEP_SIZE as usize],
+            &block[..OLD_BLOCK_SIZE],
+        );
+    }
     words::runs::same(&r[layout::BLOCK_AFTER..layout::STEP_SIZE as usize], block)
 }
 
-// A Step after the block before, which becomes the block after where the Step is right.
-fn judge_step(r: &[u8], block: &mut [u8]) -> u32
-    requires { ⌜ length (now block) ≡ layout01 .size ⌝ }
-    ensures { λ n. ⌜ Judged layout01 (now (r .entry)) (now (block .entry)) n (now (block .exit)) ⌝ }
+// A Step after the block before, the machine's, which becomes the block after where the Step is right.
+fn judge_step(old: bool, r: &[u8], block: &mut [u8]) -> u32
+    requires { ⌜ IsWide old (now block) ⌝ }
+    ensures { λ n. ⌜ JudgedWide old (now (r .entry)) (now (block .entry)) n (now (block .exit)) ⌝ }
 {
-    let fault = judge_head(r, layout::STEP_SIZE, layout::STEP_KIND);
+    let fault = judge_head(r, step_size(old), step_kind(old));
     if fault != ACCEPTED {
         return fault;
     }
+    let a = word_at(r, layout::A);
+    let code = seen_code(old, word_at(r, layout::CODE), a);
     let mut answer = [0u8; ANSWER_SIZE];
-    replay(
-        block,
-        word_at(r, layout::CODE),
-        word_at(r, layout::A),
-        word_at(r, layout::B),
-        &mut answer,
-    );
-    if !shows(r, &answer, block) {
+    replay(block, code, a, word_at(r, layout::B), &mut answer);
+    if !shows(old, r, &answer, block) {
         return WRONG_STEP;
     }
     ACCEPTED
@@ -101,19 +140,20 @@ pub(crate) struct Run {
 }
 
 // So many Steps, one behind the other from the front of r on, until one is wrong.
-fn judge_each(r: &[u8], count: u32, block: &mut [u8]) -> Run
-    requires { ⌜ length (now block) ≡ layout01 .size ⌝ }
-    ensures { λ v. ⌜ Went layout01 (now (r .entry)) count (now (block .entry)) v (now (block .exit)) ⌝ }
+fn judge_each(old: bool, r: &[u8], count: u32, block: &mut [u8]) -> Run
+    requires { ⌜ IsWide old (now block) ⌝ }
+    ensures { λ v. ⌜ Went (layout old) (now (r .entry)) count (narrow old (now (block .entry))) v (narrow old (now (block .exit))) ⌝ }
 {
+    let size = step_size(old) as usize;
     let mut k: u32 = 0;
     let mut at: usize = 0;
     while k < count {
-        let fault = judge_step(&r[at..], block);
+        let fault = judge_step(old, &r[at..], block);
         if fault != ACCEPTED {
             return Run { right: k, fault };
         }
         k += 1;
-        at += layout::STEP_SIZE as usize;
+        at += size;
     }
     Run {
         right: k,
@@ -121,16 +161,17 @@ fn judge_each(r: &[u8], count: u32, block: &mut [u8]) -> Run
     }
 }
 
-// As `judge_each`, on a block of its own. Whoever judges Steps calls this, so that the judgement of one has one caller, and the
+// As `judge_each`, on a block of its own, in which HDCR is 0 behind an old one. Whoever judges Steps calls this, so that the judgement of one has one caller, and the
 // compiler makes it a part of the loop; and of its own block the compiler knows how it lies. So a Step takes 133 instructions,
 // and not 174, or 146 where the block is the caller's.
-pub(crate) fn judge_steps(r: &[u8], count: u32, block: &mut [u8; BLOCK_SIZE]) -> Run
-    ensures { λ v. ⌜ Went layout01 (now (r .entry)) count (now (block .entry)) v (now (block .exit)) ⌝ }
+pub(crate) fn judge_steps(old: bool, r: &[u8], count: u32, block: &mut [u8]) -> Run
+    requires { ⌜ length (now block) ≡ layout old .size ⌝ }
+    ensures { λ v. ⌜ Went (layout old) (now (r .entry)) count (now (block .entry)) v (now (block .exit)) ⌝ }
 {
     let mut own = [0u8; BLOCK_SIZE];
     bytes::copy(block, &mut own);
-    let run = judge_each(r, count, &mut own);
-    bytes::copy(&own, block);
+    let run = judge_each(old, r, count, &mut own);
+    bytes::copy(&own[..block_size(old)], block);
     run
 }
 

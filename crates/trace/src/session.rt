@@ -7,6 +7,13 @@ use crate::judgements::judge_head;
 use crate::judgements::judge_start;
 use crate::judgements::judge_steps;
 use crate::layout;
+use crate::layout::block_size;
+use crate::layout::is_old;
+use crate::layout::start_kind;
+use crate::layout::start_size;
+use crate::layout::step_kind;
+use crate::layout::step_size;
+use crate::layout::steps_size;
 use state::number::CLOSED;
 use state::number::SHORT;
 use state::number::TRAILING;
@@ -14,13 +21,14 @@ use state::place::BLOCK_SIZE;
 use std::num::wrapping_add_u32;
 use words::word_at;
 ghost use mathlib.Core.Path.{_≡_};
-ghost use mathlib.Core.Bool.{_&&_};
+ghost use mathlib.Core.Bool.{false, not, _&&_};
+ghost use mathlib.Core.List.{_++_};
 ghost use Prim.Native.Nat.{_+_, _*_, _<_, _≤_};
-ghost use lib.ListN.{length};
+ghost use lib.ListN.{length, take, getD, replicate};
 ghost use lib.Seq.{sets};
 ghost use lib.Dec.{leb};
 ghost use Rattle.state.specs.Choice.{if_then_else_, _is_};
-ghost use Rattle.trace.specs.Layout.{layout01, stepSize, mostSteps, startBlockAt};
+ghost use Rattle.trace.specs.Layout.{layout, stepSize, mostSteps, startBlockAt, isOld};
 ghost use Rattle.trace.specs.Report.{ACCEPTED, startNumber};
 ghost use Rattle.trace.specs.Claims.{startOf};
 ghost use Rattle.trace.specs.Session.{
@@ -29,7 +37,9 @@ ghost use Rattle.trace.specs.Session.{
   closeNumber,
   closing,
   shutting,
-  opened,
+  openedSession,
+  comesOld,
+  fedSession,
   nothingHeld,
   dueSize,
   dueKind,
@@ -39,17 +49,23 @@ ghost use Rattle.trace.specs.Session.{
   judged,
   fed,
 };
-ghost use Rattle.trace.specs.Fed.{Due, Taken, Takes, headSeen, seenFrom, stepped, concluded};
+ghost use Rattle.trace.specs.Fed.{Room, Due, Taken, Takes, headSeen, seenFrom, stepped, concluded};
 
 // Room for any record.
 pub const RECORD_SIZE: usize = layout::STEP_SIZE as usize;
 
-// The stages: the Start is due; a Step is, or behind the last one the End; nothing more, which any higher number says too.
+// Where the kind of a record stands.
+const KIND: usize = 2;
+
+// The stages: the Start is due; a Step of the old layout is, or of the new, or behind the last one the End; nothing more, which any
+// higher number says too.
 const AT_START: u32 = 0;
 
-const AT_NEXT: u32 = 1;
+const OLD_NEXT: u32 = 1;
 
-const OVER: u32 = 2;
+const NEXT: u32 = 2;
+
+const OVER: u32 = 3;
 
 // The numbers of a session: its stage, n and Steps; the place of the record due, and how many bytes of it are held; the fault
 // that is known, or 0; and whether it is closed.
@@ -74,7 +90,7 @@ pub struct Session {
 
 // A session before its first byte.
 pub fn open() -> Session
-    ensures { λ s. ⌜ s ≡ opened layout01 ⌝ }
+    ensures { λ s. ⌜ s ≡ openedSession ⌝ }
 {
     Session {
         progress: Progress {
@@ -91,54 +107,73 @@ pub fn open() -> Session
     }
 }
 
+// The stage behind a right Start.
+fn next(old: bool) -> u32
+    ensures { λ n. ⌜ n ≡ layout old .next ⌝ }
+{
+    if old { OLD_NEXT } else { NEXT }
+}
+
+// Whether a fault became known.
+fn newly(before: u32, after: u32) -> bool
+    ensures { λ t. ⌜ t ≡ (before is 0 && not (after is 0)) ⌝ }
+{
+    if before != ACCEPTED {
+        return false;
+    }
+    after != ACCEPTED
+}
+
 // ---- the record due
 
-fn due_size(p: Progress) -> u32
-    ensures { λ n. ⌜ n ≡ dueSize layout01 p ⌝ }
+fn due_size(old: bool, p: Progress) -> u32
+    ensures { λ n. ⌜ n ≡ dueSize (layout old) p ⌝ }
 {
     if p.stage == AT_START {
-        return layout::START_SIZE;
+        return start_size(old);
     }
     if p.steps < p.count {
-        return layout::STEP_SIZE;
+        return step_size(old);
     }
     layout::END_SIZE
 }
 
-fn due_kind(p: Progress) -> u32
-    ensures { λ n. ⌜ n ≡ dueKind layout01 p ⌝ }
+fn due_kind(old: bool, p: Progress) -> u32
+    ensures { λ n. ⌜ n ≡ dueKind (layout old) p ⌝ }
 {
     if p.stage == AT_START {
-        return layout::START_KIND;
+        return start_kind(old);
     }
     if p.steps < p.count {
-        return layout::STEP_KIND;
+        return step_kind(old);
     }
     layout::END_KIND
 }
 
 // A Start, whose block is the one that the first Step goes from.
-fn judge_start_into(r: &[u8], block: &mut [u8; BLOCK_SIZE]) -> u32
-    ensures number { λ n. ⌜ n ≡ startNumber layout01 (now (r .entry)) ⌝ }
-    ensures block { λ n. ⌜ (n ≡ ACCEPTED → now (block .exit) ≡ startOf layout01 (now (r .entry))) ⌝ }
+fn judge_start_into(old: bool, r: &[u8], block: &mut [u8]) -> u32
+    requires { ⌜ length (now block) ≡ layout old .size ⌝ }
+    ensures number { λ n. ⌜ n ≡ startNumber (layout old) (now (r .entry)) ⌝ }
+    ensures block { λ n. ⌜ (n ≡ ACCEPTED → now (block .exit) ≡ startOf (layout old) (now (r .entry))) ⌝ }
 {
-    let fault = judge_start(r);
+    let fault = judge_start(old, r);
     if fault != ACCEPTED {
         return fault;
     }
-    bytes::copy(&r[layout::START_BLOCK..layout::START_SIZE as usize], block);
+    bytes::copy(&r[layout::START_BLOCK..start_size(old) as usize], block);
     ACCEPTED
 }
 
 // The record due, from the bytes r on: its fault, and where there is none the block that it leaves.
-fn judge_due(p: Progress, r: &[u8], block: &mut [u8; BLOCK_SIZE]) -> u32
-    ensures { λ n. ⌜ Due layout01 p (now (r .entry)) (now (block .entry)) n (now (block .exit)) ⌝ }
+fn judge_due(old: bool, p: Progress, r: &[u8], block: &mut [u8]) -> u32
+    requires { ⌜ length (now block) ≡ layout old .size ⌝ }
+    ensures { λ n. ⌜ Due (layout old) p (now (r .entry)) (now (block .entry)) n (now (block .exit)) ⌝ }
 {
     if p.stage == AT_START {
-        return judge_start_into(r, block);
+        return judge_start_into(old, r, block);
     }
     if p.steps < p.count {
-        return judge_steps(r, 1, block).fault;
+        return judge_steps(old, r, 1, block).fault;
     }
     judge_end(r, p.steps)
 }
@@ -156,26 +191,29 @@ fn due_count(p: Progress, r: &[u8]) -> u32
 
 // ---- what becomes of the session
 
-// Nothing is held. (That it had room for a Step is what its type says; the contract says it for the proof of who calls this.)
-fn forget(unfinished: &mut [u8; RECORD_SIZE])
-    ensures { λ _. ⌜ (now (unfinished .exit) ≡ nothingHeld layout01) × (length (now (unfinished .entry)) ≡ stepSize layout01) ⌝ }
+// Bytes of which nothing is kept.
+fn clear(bytes: &mut [u8])
+    requires { ⌜ length (now bytes) ≤ stepSize (layout false) ⌝ }
+    ensures { λ _. ⌜ now (bytes .exit) ≡ replicate (length (now (bytes .entry))) 0 ⌝ }
 {
     let nothing = [0u8; RECORD_SIZE];
-    bytes::copy(&nothing, unfinished);
+    bytes::copy(&nothing[..bytes.len()], bytes);
 }
 
 // A fault is known: nothing is kept but the numbers.
 fn refuse(
+    old: bool,
     p: Progress,
     fault: u32,
-    block: &mut [u8; BLOCK_SIZE],
-    unfinished: &mut [u8; RECORD_SIZE],
+    block: &mut [u8],
+    unfinished: &mut [u8],
 ) -> Progress
+    requires { ⌜ Room old (now block) (now unfinished) ⌝ }
     ensures { λ q. ⌜ session q (now (block .exit)) (now (unfinished .exit))
-        ≡ faulty layout01 (session p (now (block .entry)) (now (unfinished .entry))) fault ⌝ }
+        ≡ faulty (layout old) (session p (now (block .entry)) (now (unfinished .entry))) fault ⌝ }
 {
-    *block = [0u8; BLOCK_SIZE];
-    *unfinished = [0u8; RECORD_SIZE];
+    clear(block);
+    clear(unfinished);
     let mut q = p;
     q.held = 0;
     q.fault = fault;
@@ -183,13 +221,13 @@ fn refuse(
 }
 
 // The record due was right, and this is n: the next one is due.
-fn advance(p: Progress, count: u32) -> Progress
-    ensures { λ q. ⌜ q ≡ advancing layout01 p count ⌝ }
+fn advance(old: bool, p: Progress, count: u32) -> Progress
+    ensures { λ q. ⌜ q ≡ advancing (layout old) p count ⌝ }
 {
-    let place = wrapping_add_u32(p.place, due_size(p));
+    let place = wrapping_add_u32(p.place, due_size(old, p));
     if p.stage == AT_START {
         return Progress {
-            stage: AT_NEXT,
+            stage: next(old),
             count,
             steps: 0,
             place,
@@ -200,7 +238,7 @@ fn advance(p: Progress, count: u32) -> Progress
     }
     if p.steps < p.count {
         return Progress {
-            stage: AT_NEXT,
+            stage: p.stage,
             count,
             steps: p.steps + 1,
             place,
@@ -222,55 +260,60 @@ fn advance(p: Progress, count: u32) -> Progress
 
 // The record due was judged, and the block is the one that it leaves.
 fn conclude(
+    old: bool,
     p: Progress,
     fault: u32,
     count: u32,
-    block: &mut [u8; BLOCK_SIZE],
-    unfinished: &mut [u8; RECORD_SIZE],
+    block: &mut [u8],
+    unfinished: &mut [u8],
 ) -> Progress
+    requires { ⌜ Room old (now block) (now unfinished) ⌝ }
     ensures { λ q. ⌜ session q (now (block .exit)) (now (unfinished .exit))
-        ≡ concluded layout01 fault p count (now (block .entry)) ⌝ }
+        ≡ concluded (layout old) fault p count (now (block .entry)) ⌝ }
 {
     if fault != ACCEPTED {
-        return refuse(p, fault, block, unfinished);
+        return refuse(old, p, fault, block, unfinished);
     }
-    *unfinished = [0u8; RECORD_SIZE];
-    advance(p, count)
+    clear(unfinished);
+    advance(old, p, count)
 }
 
 // The record due is at the front of r, whole, and is judged where it lies.
 fn judge_lying(
+    old: bool,
     p: Progress,
     r: &[u8],
-    block: &mut [u8; BLOCK_SIZE],
-    unfinished: &mut [u8; RECORD_SIZE],
+    block: &mut [u8],
+    unfinished: &mut [u8],
 ) -> Progress
-    requires { ⌜ startBlockAt ≤ length (now r) ⌝ }
+    requires { ⌜ (startBlockAt ≤ length (now r)) × Room old (now block) (now unfinished) ⌝ }
     ensures { λ q. ⌜ session q (now (block .exit)) (now (unfinished .exit))
-        ≡ judged layout01 (session p (now (block .entry)) (now (unfinished .entry))) (now (r .entry)) ⌝ }
+        ≡ judged (layout old) (session p (now (block .entry)) (now (unfinished .entry))) (now (r .entry)) ⌝ }
 {
-    let fault = judge_due(p, r, block);
+    let fault = judge_due(old, p, r, block);
     let count = due_count(p, r);
-    conclude(p, fault, count, block, unfinished)
+    conclude(old, p, fault, count, block, unfinished)
 }
 
 // The record due is held whole.
 fn judge_held(
+    old: bool,
     p: Progress,
-    block: &mut [u8; BLOCK_SIZE],
-    unfinished: &mut [u8; RECORD_SIZE],
+    block: &mut [u8],
+    unfinished: &mut [u8],
 ) -> Progress
+    requires { ⌜ Room old (now block) (now unfinished) ⌝ }
     ensures { λ q. ⌜ session q (now (block .exit)) (now (unfinished .exit))
-        ≡ judged layout01 (session p (now (block .entry)) (now (unfinished .entry))) (now (unfinished .entry)) ⌝ }
+        ≡ judged (layout old) (session p (now (block .entry)) (now (unfinished .entry))) (now (unfinished .entry)) ⌝ }
 {
-    let fault = judge_due(p, unfinished, block);
+    let fault = judge_due(old, p, unfinished, block);
     let count = due_count(p, unfinished);
-    conclude(p, fault, count, block, unfinished)
+    conclude(old, p, fault, count, block, unfinished)
 }
 
 // The head's fault, if its last byte is among the new ones, those behind the first so many; else none.
-fn judge_new_head(before: u32, p: Progress, unfinished: &[u8]) -> u32
-    ensures { λ n. ⌜ n ≡ headSeen layout01 before p (now (unfinished .entry)) ⌝ }
+fn judge_new_head(old: bool, before: u32, p: Progress, unfinished: &[u8]) -> u32
+    ensures { λ n. ⌜ n ≡ headSeen (layout old) before p (now (unfinished .entry)) ⌝ }
 {
     if layout::HEAD_SIZE as u32 <= before {
         return ACCEPTED;
@@ -278,26 +321,28 @@ fn judge_new_head(before: u32, p: Progress, unfinished: &[u8]) -> u32
     if p.held < layout::HEAD_SIZE as u32 {
         return ACCEPTED;
     }
-    judge_head(unfinished, due_size(p), due_kind(p))
+    judge_head(unfinished, due_size(old, p), due_kind(old, p))
 }
 
 // More bytes are held, behind the first so many: those of a head show whether the record is the one due, all of them whether it
 // is right.
 fn look(
+    old: bool,
     before: u32,
     p: Progress,
-    block: &mut [u8; BLOCK_SIZE],
-    unfinished: &mut [u8; RECORD_SIZE],
+    block: &mut [u8],
+    unfinished: &mut [u8],
 ) -> Progress
+    requires { ⌜ Room old (now block) (now unfinished) ⌝ }
     ensures { λ q. ⌜ session q (now (block .exit)) (now (unfinished .exit))
-        ≡ seenFrom layout01 before (session p (now (block .entry)) (now (unfinished .entry))) ⌝ }
+        ≡ seenFrom (layout old) before (session p (now (block .entry)) (now (unfinished .entry))) ⌝ }
 {
-    let fault = judge_new_head(before, p, unfinished);
+    let fault = judge_new_head(old, before, p, unfinished);
     if fault != ACCEPTED {
-        return refuse(p, fault, block, unfinished);
+        return refuse(old, p, fault, block, unfinished);
     }
-    if p.held == due_size(p) {
-        return judge_held(p, block, unfinished);
+    if p.held == due_size(old, p) {
+        return judge_held(old, p, block, unfinished);
     }
     p
 }
@@ -329,69 +374,72 @@ fn put_run(d: &mut [u8], at: usize, r: &[u8])
 
 // Bytes of a record that is not whole yet, up to its end.
 fn hold(
+    old: bool,
     p: Progress,
     r: &[u8],
-    block: &mut [u8; BLOCK_SIZE],
-    unfinished: &mut [u8; RECORD_SIZE],
+    block: &mut [u8],
+    unfinished: &mut [u8],
 ) -> Turn
-    requires { ⌜ (0 < length (now r)) × Takes layout01 p ⌝ }
-    ensures { λ t. ⌜ Taken layout01 (session p (now (block .entry)) (now (unfinished .entry))) (now (r .entry))
+    requires { ⌜ (0 < length (now r)) × Takes (layout old) p × Room old (now block) (now unfinished) ⌝ }
+    ensures { λ t. ⌜ Taken (layout old) (session p (now (block .entry)) (now (unfinished .entry))) (now (r .entry))
         (session (t .progress) (now (block .exit)) (now (unfinished .exit))) (t .taken) ⌝ }
 {
     let at = p.held as usize;
-    let taken = least(due_size(p) as usize - at, r.len());
+    let taken = least(due_size(old, p) as usize - at, r.len());
     put_run(unfinished, at, &r[..taken]);
     let mut q = p;
     q.held = (at + taken) as u32;
     Turn {
-        progress: look(p.held, q, block, unfinished),
+        progress: look(old, p.held, q, block, unfinished),
         taken,
     }
 }
 
 // How many Steps that are due lie whole in so many bytes; not more than a trace may have, so that a word counts their bytes.
-fn whole_steps(p: Progress, size: usize) -> u32
+fn whole_steps(old: bool, p: Progress, size: usize) -> u32
     requires { ⌜ p .steps < p .count ⌝ }
-    ensures { λ n. ⌜ (n ≤ mostSteps) × (p .steps + n ≤ p .count) × (stepSize layout01 * n ≤ size) × (stepSize layout01 ≤ size → 0 < n) ⌝ }
+    ensures { λ n. ⌜ (n ≤ mostSteps) × (p .steps + n ≤ p .count) × (stepSize (layout old) * n ≤ size) × (stepSize (layout old) ≤ size → 0 < n) ⌝ }
 {
     let most = least((p.count - p.steps) as usize, layout::MOST_STEPS as usize);
-    least(most, size / (layout::STEP_SIZE as usize)) as u32
+    least(most, size / (step_size(old) as usize)) as u32
 }
 
 // The numbers behind so many right Steps.
-fn step_on(p: Progress, right: u32) -> Progress
+fn step_on(old: bool, p: Progress, right: u32) -> Progress
     requires { ⌜ (right ≤ mostSteps) × (p .steps + right ≤ p .count) ⌝ }
-    ensures { λ q. ⌜ q ≡ stepped layout01 right p ⌝ }
+    ensures { λ q. ⌜ q ≡ stepped (layout old) right p ⌝ }
 {
     let mut q = p;
     q.steps = p.steps + right;
-    q.place = wrapping_add_u32(p.place, layout::STEP_SIZE * right);
+    q.place = wrapping_add_u32(p.place, steps_size(old, right));
     q
 }
 
 // Steps that lie whole in r, one behind the other, until one is wrong; nothing is held.
 fn take_steps(
+    old: bool,
     p: Progress,
     r: &[u8],
-    block: &mut [u8; BLOCK_SIZE],
-    unfinished: &mut [u8; RECORD_SIZE],
+    block: &mut [u8],
+    unfinished: &mut [u8],
 ) -> Turn
-    requires { ⌜ (stepSize layout01 ≤ length (now r)) × Takes layout01 p × (p .held ≡ 0)
-        × (dueSize layout01 p ≡ stepSize layout01) × (now unfinished ≡ nothingHeld layout01) ⌝ }
-    ensures { λ t. ⌜ Taken layout01 (session p (now (block .entry)) (nothingHeld layout01)) (now (r .entry))
+    requires { ⌜ (stepSize (layout old) ≤ length (now r)) × Takes (layout old) p × (p .held ≡ 0)
+        × (dueSize (layout old) p ≡ stepSize (layout old)) × (now unfinished ≡ nothingHeld (layout old))
+        × (length (now block) ≡ layout old .size) ⌝ }
+    ensures { λ t. ⌜ Taken (layout old) (session p (now (block .entry)) (nothingHeld (layout old))) (now (r .entry))
         (session (t .progress) (now (block .exit)) (now (unfinished .exit))) (t .taken) ⌝ }
 {
-    let run = judge_steps(r, whole_steps(p, r.len()), block);
-    let q = step_on(p, run.right);
+    let run = judge_steps(old, r, whole_steps(old, p, r.len()), block);
+    let q = step_on(old, p, run.right);
     if run.fault != ACCEPTED {
         return Turn {
-            progress: refuse(q, run.fault, block, unfinished),
+            progress: refuse(old, q, run.fault, block, unfinished),
             taken: r.len(),
         };
     }
     Turn {
         progress: q,
-        taken: (layout::STEP_SIZE * run.right) as usize,
+        taken: steps_size(old, run.right) as usize,
     }
 }
 
@@ -407,25 +455,26 @@ fn lies_whole(held: u32, size: u32, length: usize) -> bool
 
 // The first bytes of r, where the record due has room: records that lie whole in it are judged there.
 fn take_due(
+    old: bool,
     p: Progress,
     r: &[u8],
-    block: &mut [u8; BLOCK_SIZE],
-    unfinished: &mut [u8; RECORD_SIZE],
+    block: &mut [u8],
+    unfinished: &mut [u8],
 ) -> Turn
-    requires { ⌜ (0 < length (now r)) × Takes layout01 p ⌝ }
-    ensures { λ t. ⌜ Taken layout01 (session p (now (block .entry)) (now (unfinished .entry))) (now (r .entry))
+    requires { ⌜ (0 < length (now r)) × Takes (layout old) p × Room old (now block) (now unfinished) ⌝ }
+    ensures { λ t. ⌜ Taken (layout old) (session p (now (block .entry)) (now (unfinished .entry))) (now (r .entry))
         (session (t .progress) (now (block .exit)) (now (unfinished .exit))) (t .taken) ⌝ }
 {
-    let size = due_size(p);
+    let size = due_size(old, p);
     if !lies_whole(p.held, size, r.len()) {
-        return hold(p, r, block, unfinished);
+        return hold(old, p, r, block, unfinished);
     }
-    forget(unfinished);
-    if size == layout::STEP_SIZE {
-        return take_steps(p, r, block, unfinished);
+    clear(unfinished);
+    if size == step_size(old) {
+        return take_steps(old, p, r, block, unfinished);
     }
     Turn {
-        progress: judge_lying(p, r, block, unfinished),
+        progress: judge_lying(old, p, r, block, unfinished),
         taken: size as usize,
     }
 }
@@ -433,13 +482,14 @@ fn take_due(
 // The first bytes of r, at least one. No feeding makes a session that holds as many bytes as its record has, or more: they leave
 // such a one as it is.
 fn take(
+    old: bool,
     p: Progress,
     r: &[u8],
-    block: &mut [u8; BLOCK_SIZE],
-    unfinished: &mut [u8; RECORD_SIZE],
+    block: &mut [u8],
+    unfinished: &mut [u8],
 ) -> Turn
-    requires { ⌜ 0 < length (now r) ⌝ }
-    ensures { λ t. ⌜ Taken layout01 (session p (now (block .entry)) (now (unfinished .entry))) (now (r .entry))
+    requires { ⌜ (0 < length (now r)) × Room old (now block) (now unfinished) ⌝ }
+    ensures { λ t. ⌜ Taken (layout old) (session p (now (block .entry)) (now (unfinished .entry))) (now (r .entry))
         (session (t .progress) (now (block .exit)) (now (unfinished .exit))) (t .taken) ⌝ }
 {
     let all = Turn {
@@ -454,17 +504,78 @@ fn take(
     }
     if OVER <= p.stage {
         return Turn {
-            progress: refuse(p, TRAILING, block, unfinished),
+            progress: refuse(old, p, TRAILING, block, unfinished),
             taken: r.len(),
         };
     }
-    if due_size(p) <= p.held {
+    if due_size(old, p) <= p.held {
         return all;
     }
-    take_due(p, r, block, unfinished)
+    take_due(old, p, r, block, unfinished)
 }
 
-// A run of bytes comes to a session taken apart.
+// A run of bytes comes to a session taken apart, in a layout.
+fn feed_in(
+    old: bool,
+    p: Progress,
+    block: &mut [u8],
+    unfinished: &mut [u8],
+    bytes: &[u8],
+) -> Progress
+    requires { ⌜ Room old (now block) (now unfinished) ⌝ }
+    ensures { λ q. ⌜ session q (now (block .exit)) (now (unfinished .exit))
+        ≡ fed (layout old) (session p (now (block .entry)) (now (unfinished .entry))) (now (bytes .entry)) ⌝ }
+{
+    let mut q = p;
+    let mut at: usize = 0;
+    while at < bytes.len() {
+        let t = take(old, q, &bytes[at..], block, unfinished);
+        q = t.progress;
+        at += t.taken;
+    }
+    q
+}
+
+// The byte at i of those that are held, so many of them, and those that come behind them.
+fn begun_byte(unfinished: &[u8], held: usize, bytes: &[u8], i: usize) -> u8
+    requires { ⌜ (held ≤ length (now unfinished)) × (i < held + length (now bytes)) ⌝ }
+    ensures { λ x. ⌜ x ≡ getD (take held (now (unfinished .entry)) ++ now (bytes .entry)) i 0 ⌝ }
+{
+    if i < held {
+        return unfinished[i];
+    }
+    bytes[i - held]
+}
+
+// Whether a Start of which these bytes are held, and these come, has the old layout.
+fn begins_old(unfinished: &[u8; RECORD_SIZE], held: u32, bytes: &[u8]) -> bool
+    ensures { λ t. ⌜ t ≡ isOld (take held (now (unfinished .entry)) ++ now (bytes .entry)) ⌝ }
+{
+    if layout::HEAD_SIZE as u32 <= held {
+        return is_old(unfinished);
+    }
+    let before = held as usize;
+    if bytes.len() < layout::HEAD_SIZE - before {
+        return true;
+    }
+    if begun_byte(unfinished, before, bytes, KIND) != layout::START_KIND as u8 {
+        return true;
+    }
+    begun_byte(unfinished, before, bytes, KIND + 1) != 0
+}
+
+// The layout in which a run comes: while the Start is due that of its kind, then that of the stage.
+fn comes_old(p: Progress, unfinished: &[u8; RECORD_SIZE], bytes: &[u8]) -> bool
+    ensures { λ t. ⌜ t ≡ comesOld p (now (unfinished .entry)) (now (bytes .entry)) ⌝ }
+{
+    if p.stage == AT_START {
+        return begins_old(unfinished, p.held, bytes);
+    }
+    p.stage != NEXT
+}
+
+// A run of bytes comes to a session taken apart. What lies behind the block and the record of its layout stays, until a fault is
+// known: then nothing is kept but the numbers.
 pub fn feed(
     p: Progress,
     block: &mut [u8; BLOCK_SIZE],
@@ -472,14 +583,19 @@ pub fn feed(
     bytes: &[u8],
 ) -> Progress
     ensures { λ q. ⌜ session q (now (block .exit)) (now (unfinished .exit))
-        ≡ fed layout01 (session p (now (block .entry)) (now (unfinished .entry))) (now (bytes .entry)) ⌝ }
+        ≡ fedSession (session p (now (block .entry)) (now (unfinished .entry))) (now (bytes .entry)) ⌝ }
 {
-    let mut q = p;
-    let mut at: usize = 0;
-    while at < bytes.len() {
-        let t = take(q, &bytes[at..], block, unfinished);
-        q = t.progress;
-        at += t.taken;
+    let old = comes_old(p, unfinished, bytes);
+    let q = feed_in(
+        old,
+        p,
+        &mut block[..block_size(old)],
+        &mut unfinished[..step_size(old) as usize],
+        bytes,
+    );
+    if newly(p.fault, q.fault) {
+        *block = [0u8; BLOCK_SIZE];
+        *unfinished = [0u8; RECORD_SIZE];
     }
     q
 }

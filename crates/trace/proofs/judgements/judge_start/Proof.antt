@@ -6,17 +6,35 @@ use borrow.Author.Tests.{le-leb, lt-leb}
 use native.Mathlib.Omega.{arith}
 use Rattle.trace.proofs.Faults.{head-whole}
 use Rattle.trace.proofs.Judging.{fault-first}
+use Rattle.trace.proofs.Lawfuls.{lawful}
 use Rattle.trace.proofs.judgements.judge_start.Statement.{statement}
 use Rattle.trace.proofs.judgements.judge_start.Tie as tie
-use Rattle.trace.specs.Layout.{layout01, startSize, mostSteps}
+use Rattle.trace.specs.Layout.{layout, startSize, mostSteps}
 use Rattle.trace.specs.Report.{headNumber, startNumber}
 
-right-head : (c : tie.Else1) → headNumber (startSize layout01) (layout01 .startKind) (c .before .before .before .args .r .now) ≡ 0
-right-head c = sym (c .before .judge-head .ensures) ∙ c .if1 .left
+-- what was handed over, seen from behind the judgement of the head, which is by the size and the kind of the layout
+abbrev start : tie.After-judge-head → tie.Start
+start c = c .before .before .before .before
+
+head : (c : tie.After-judge-head)
+    → let x = start c .args in
+    c .judge-head .result ≡ headNumber (startSize (layout (x .old))) (layout (x .old) .startKind) (x .r .now)
+head c =
+    c .judge-head .ensures
+    ∙ (λ i. headNumber (c .before .before .start-size .ensures i) (c .before .start-kind .ensures i) (start c .args .r .now))
+
+right-head : (c : tie.Else1)
+    → let x = start (c .before) .args in headNumber (startSize (layout (x .old))) (layout (x .old) .startKind) (x .r .now) ≡ 0
+right-head c = sym (head (c .before)) ∙ c .if1 .left
+
+judge-head-requires : tie.Need-judge-head-requires
+judge-head-requires c κs =
+    let law = lawful (c .before .before .before .args .old) in
+    (omega (arith, c .before .start-size .ensures, law .step-fits), omega (arith, c .start-kind .ensures, law .start-kind-fits))
 
 returns : tie.Need-returns
 unfolding startNumber
-returns c = fault-first _ _ _ _ _ (c .before .judge-head .ensures) (c .if1 .taken)
+returns c = fault-first _ _ _ _ _ (head (c .before)) (c .if1 .taken)
 
 returns-2 : tie.Need-returns-2
 unfolding startNumber
@@ -39,6 +57,8 @@ judge-start-spec =
     tie.close
     (tie.spec
     (λ c κs. search needs)
+    (λ c κs. search needs)
+    judge-head-requires
     returns
     (λ c κs. omega (arith, head-whole _ _ _ (right-head c) .3))
     returns-2
