@@ -30,13 +30,13 @@ use denote.Struct.Members.{Member, rowsOf, partsAt}
 use denote.Struct.Parts.{shapeOf, PartsBack, struct-parts}
 use denote.Struct.Steps.{spelt}
 use denote.Struct.Struct.{Struct}
-use Rattle.trace.specs.declared.session.Progress.{Progress}
-use Rattle.trace.specs.declared.session.Session.{Session}
-use Rattle.trace.specs.Layout.{layout01, stepSize}
-use Rattle.trace.proofs.session.Progress as progress
-use Rattle.trace.proofs.session.Progress.Laws as progress-laws
-use Rattle.trace.proofs.session.Session as whole
-use Rattle.trace.proofs.session.Session.Laws as whole-laws
+use Rattle.records.specs.declared.session.Progress.{Progress}
+use Rattle.records.specs.declared.session.Session.{Session}
+use Rattle.records.specs.Layout.{layout01, stepSize}
+use Rattle.records.proofs.session.Progress as progress
+use Rattle.records.proofs.session.Progress.Laws as progress-laws
+use Rattle.records.proofs.session.Session as whole
+use Rattle.records.proofs.session.Session.Laws as whole-laws
 use Rattle.console.proofs.Walking.{ungroup}
 
 -- ---- the types: of the whole, and of its fields

@@ -2,7 +2,7 @@
 use mathlib.Core.Path.{_≡_, refl, ap, _∙_}
 use lib.ListN.{length}
 use borrow.Author.Tests.{eq-eqb}
-use Rattle.trace.specs.declared.check.Report.{Report}
+use Rattle.records.specs.declared.report.Report.{Report}
 use Rattle.recorder.proofs.Theorems.{theorems01}
 use Rattle.console.specs.Check.{reportSize, reportBytes, checkReturns, checkLeaves}
 use Rattle.console.specs.Reference.{ReferenceTheorems}

@@ -9,15 +9,15 @@ use lib.ListN.{length}
 use borrow.Author.Tests.{eq-eqb}
 use Rattle.words.specs.Word.{Bytes}
 use Rattle.state.specs.Number.{DONE}
-use Rattle.trace.specs.declared.check.Report.{Report}
-use Rattle.trace.specs.declared.session.Session.{Session}
-use Rattle.trace.specs.Layout.{layout01}
-use Rattle.trace.specs.Published.{Published}
-use Rattle.trace.specs.Report.{report}
-use Rattle.trace.specs.Session.{CLOSED, session, opened, fed, fedAll, feedNumber, shutting, shut, closing}
-use Rattle.trace.specs.Arrival.{joined}
-use Rattle.trace.proofs.Feeding.{fed-cut}
-use Rattle.trace.proofs.Arrivals.{arrival01}
+use Rattle.records.specs.declared.report.Report.{Report}
+use Rattle.records.specs.declared.session.Session.{Session}
+use Rattle.records.specs.Layout.{layout01}
+use Rattle.records.specs.Published.{Published}
+use Rattle.records.specs.Report.{report}
+use Rattle.records.specs.Session.{CLOSED, session, opened, fed, fedAll, feedNumber, shutting, shut, closing}
+use Rattle.records.specs.Arrival.{joined}
+use Rattle.records.proofs.Feeding.{fed-cut}
+use Rattle.records.proofs.Arrivals.{arrival01}
 use Rattle.console.specs.Check.{reportSize, reportBytes, checkReturns, checkLeaves}
 use Rattle.console.specs.Session.{Feeds, Closes, FedRuns, no-run, one-run, Arriving, Arrived, SessionTheorems}
 use Rattle.console.specs.Session.{closeReturns, closeKeeps, closeLeaves}

@@ -6,9 +6,9 @@ use lib.ListN.{length}
 use Rattle.words.specs.Word.{le32}
 use Rattle.state.specs.Choice.{if_then_else_, _is_}
 use Rattle.state.specs.Number.{BAD-SIZE}
-use Rattle.trace.specs.declared.check.Report.{Report}
-use Rattle.trace.specs.Layout.{layout01}
-use Rattle.trace.specs.Report.{report}
+use Rattle.records.specs.declared.report.Report.{Report}
+use Rattle.records.specs.Layout.{layout01}
+use Rattle.records.specs.Report.{report}
 
 abbrev pub reportSize : ℕ
 reportSize = 12

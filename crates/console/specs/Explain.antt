@@ -6,7 +6,7 @@ use lib.ListN.{length}
 use Rattle.words.specs.Word.{le32}
 use Rattle.state.specs.Choice.{if_then_else_, _is_}
 use Rattle.state.specs.Number.{BAD-SIZE}
-use Rattle.trace.specs.Layout.{layout01}
+use Rattle.records.specs.Layout.{layout01}
 use Rattle.explain.specs.declared.Explanation.{Explanation}
 use Rattle.explain.specs.Explain.{explanation}
 

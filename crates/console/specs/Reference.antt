@@ -5,8 +5,8 @@ use Prim.Native.Nat.{ℕ}
 use lib.ListN.{length, take, drop}
 use Rattle.state.specs.Number.{DONE}
 use Rattle.rules.specs.declared.event.Event.{Event}
-use Rattle.trace.specs.Layout.{layout01}
-use Rattle.trace.specs.Published.{AreEvents}
+use Rattle.records.specs.Layout.{layout01}
+use Rattle.records.specs.Published.{AreEvents}
 use Rattle.recorder.specs.Recorded.{traceSize, Recorded}
 use Rattle.console.specs.Check.{reportSize, reportBytes, checkReturns, checkLeaves}
 

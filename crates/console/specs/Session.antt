@@ -9,13 +9,13 @@ use lib.Dec.{leb}
 use Rattle.words.specs.Word.{Bytes}
 use Rattle.state.specs.Choice.{if_then_else_, _is_}
 use Rattle.state.specs.Number.{DONE, BAD-SIZE}
-use Rattle.trace.specs.declared.session.Progress.{Progress}
-use Rattle.trace.specs.declared.session.Session.{Session}
-use Rattle.trace.specs.Layout.{layout01}
-use Rattle.trace.specs.Published.{Published}
-use Rattle.trace.specs.Report.{report, SHORT}
-use Rattle.trace.specs.Session.{CLOSED, session, opened, fed, feedNumber, shutting, closing}
-use Rattle.trace.specs.Arrival.{joined, knownNumber, knownWith}
+use Rattle.records.specs.declared.session.Progress.{Progress}
+use Rattle.records.specs.declared.session.Session.{Session}
+use Rattle.records.specs.Layout.{layout01}
+use Rattle.records.specs.Published.{Published}
+use Rattle.records.specs.Report.{report, SHORT}
+use Rattle.records.specs.Session.{CLOSED, session, opened, fed, feedNumber, shutting, closing}
+use Rattle.records.specs.Arrival.{joined, knownNumber, knownWith}
 use Rattle.console.specs.Check.{reportSize, reportBytes, checkReturns, checkLeaves}
 
 -- opening returns 0 and leaves a session before its first byte

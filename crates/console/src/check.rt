@@ -2,11 +2,11 @@
 ghost use mathlib.Core.Path.{_≡_};
 ghost use mathlib.Core.Logic.{_↔_};
 ghost use lib.ListN.{length};
-ghost use Rattle.trace.specs.Layout.{layout01};
-ghost use Rattle.trace.specs.Published.{Published};
+ghost use Rattle.records.specs.Layout.{layout01};
+ghost use Rattle.records.specs.Published.{Published};
 ghost use Rattle.console.specs.Check.{reportSize, reportBytes, checkReturns, checkLeaves};
 use state::number;
-use trace::check::Report;
+use records::report::Report;
 use words::put_word;
 
 pub(crate) const REPORT_SIZE: usize = 12;
@@ -38,7 +38,7 @@ pub extern "C" fn pomurica_check(trace: &[u8], report: &mut [u8]) -> u32
     if report.len() != REPORT_SIZE {
         return number::BAD_SIZE;
     }
-    let found = trace::check::check(trace);
+    let found = trace::check(trace);
     put_report(report, found);
     found.number
 }

@@ -1,6 +1,6 @@
 // The counts of many traces, and their lines, for C.
 ghost use mathlib.Core.Path.{_≡_};
-ghost use Rattle.trace.specs.Layout.{layout01};
+ghost use Rattle.records.specs.Layout.{layout01};
 ghost use Rattle.counts.specs.Counts.{countReturns, countLeaves};
 ghost use Rattle.console.specs.Count.{textReturns, textLeaves, textAnswers};
 use machine::step::ANSWER_SIZE;

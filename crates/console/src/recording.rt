@@ -4,7 +4,7 @@ use recorder::finish;
 use recorder::go_on;
 use rules::event::Event;
 use state::number;
-ghost use Rattle.trace.specs.Layout.{layout01};
+ghost use Rattle.records.specs.Layout.{layout01};
 ghost use Rattle.recorder.specs.Recorded.{Recorded};
 
 // The trace of the events from the block on, written into the buffer from the offset on: DONE, whatever each of them answers. A

@@ -5,15 +5,15 @@ ghost use Rattle.console.specs.Session.{Opens, Feeds, Closes, closeRetur
 use crate::check::REPORT_SIZE;
 use crate::check::put_report;
 use state::number;
-use trace::session::Progress;
-use trace::session::Session;
+use records::session::Progress;
+use records::session::Session;
 
 // Begins a trace, whatever the session held.
 #[no_mangle]
 pub extern "C" fn pomurica_open(session: &mut Session) -> u32
     ensures { λ r. ⌜ Opens r (now (session .exit)) ⌝ }
 {
-    *session = trace::session::open();
+    *session = session::open();
     number::DONE
 }
 
@@ -22,14 +22,14 @@ pub extern "C" fn pomurica_open(session: &mut Session) -> u32
 pub extern "C" fn pomurica_feed(session: &mut Session, bytes: &[u8]) -> u32
     ensures { λ r. ⌜ Feeds (now (session .entry)) (now (bytes .entry)) r (now (session .exit)) ⌝ }
 {
-    let progress = trace::session::feed(
+    let progress = session::feed(
         session.progress,
         &mut session.block,
         &mut session.unfinished,
         bytes,
     );
     session.progress = progress;
-    trace::session::feed_number(progress)
+    session::feed_number(progress)
 }
 
 // A session's numbers after closing, and what is returned.
@@ -49,10 +49,10 @@ fn close_into(p: Progress, report: &mut [u8]) -> Closing
             number: number::BAD_SIZE,
         };
     }
-    let found = trace::session::close(p);
+    let found = session::close(p);
     put_report(report, found);
     Closing {
-        progress: trace::session::shut(p),
+        progress: session::shut(p),
         number: found.number,
     }
 }

@@ -27,7 +27,7 @@ use Rattle.rules.specs.Verdict.{value}
 use Rattle.rules.proofs.Deciding.{by-code}
 use Rattle.rules.proofs.Sound.{action-sound, target-small}
 use Rattle.machine.proofs.Laws.{number-small, which-small}
-use Rattle.trace.specs.Layout.{layout01}
+use Rattle.records.specs.Layout.{layout01}
 use Rattle.counts.specs.Counts.{Step, stepsFrom, codeNumber, isDone, isCheck, isEntry, targetMode}
 use Rattle.counts.specs.Counts.{isDoneCheck, exceptionTaken, howMany, GROUP-SIZE}
 use Rattle.counts.specs.Theorems.{total}

@@ -10,7 +10,7 @@ use lib.ListN.{length, drop}
 use lib.Seq.{drop-drop}
 use Rattle.words.specs.Word.{word}
 use Rattle.state.specs.Choice.{if_then_else_}
-use Rattle.trace.specs.Layout.{Layout, startSize, stepSize, mostSteps, placeOf}
+use Rattle.records.specs.Layout.{Layout, startSize, stepSize, mostSteps, placeOf}
 use Rattle.counts.specs.Counts.{Step, counted, howMany, count, gain, GROUP-SIZE, WORDS, COUNTS-SIZE}
 use Rattle.counts.specs.Parts.{shownStep, shownSteps, Tally, Counted, Gains}
 use Rattle.counts.proofs.Bumping.{one, one-small}

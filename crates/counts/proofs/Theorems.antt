@@ -11,10 +11,10 @@ use borrow.Author.Tests.{eq-eqb, ne-eqb, eqb-true, eqb-false}
 use Rattle.words.specs.Word.{word, Bytes}
 use Rattle.state.specs.Choice.{if_then_else_}
 use Rattle.state.specs.Number.{DONE, BAD-SIZE, FULL}
-use Rattle.trace.specs.Layout.{layout01}
-use Rattle.trace.specs.Report.{report, ACCEPTED}
-use Rattle.trace.specs.Claims.{startOf, eventsOf}
-use Rattle.trace.proofs.Lawful01.{lawful01}
+use Rattle.records.specs.Layout.{layout01}
+use Rattle.records.specs.Report.{report, ACCEPTED}
+use Rattle.records.specs.Claims.{startOf, eventsOf}
+use Rattle.records.proofs.Lawful01.{lawful01}
 use Rattle.counts.specs.Counts.{stepsOf, sum, spellWords, anyPasses, countReturns, countLeaves, WORDS, COUNTS-SIZE}
 use Rattle.counts.specs.Theorems.{total, Counting, Theorems}
 use Rattle.counts.proofs.Adding.{all-below, spelt-word, length-spelt}

@@ -15,9 +15,9 @@ use Rattle.state.specs.Number.{DONE, BAD-SIZE, FULL}
 use Rattle.entry.specs.Code.{isKnown, isSynchronous, INTERRUPT-CHECK}
 use Rattle.rules.specs.declared.event.Event.{Event}
 use Rattle.rules.specs.declared.verdict.Answer.{Answer}
-use Rattle.trace.specs.Layout.{Layout}
-use Rattle.trace.specs.Report.{report, ACCEPTED}
-use Rattle.trace.specs.Claims.{startOf, eventsOf}
+use Rattle.records.specs.Layout.{Layout}
+use Rattle.records.specs.Report.{report, ACCEPTED}
+use Rattle.records.specs.Claims.{startOf, eventsOf}
 
 -- ---- Steps
 

@@ -8,8 +8,8 @@ use lib.ListN.{length, drop}
 use lib.Dec.{ltb}
 use Rattle.words.specs.Word.{spelt, word, put}
 use Rattle.state.specs.Choice.{if_then_else_}
-use Rattle.trace.specs.Layout.{Layout, stepSize, numberAt, valueAt}
-use Rattle.trace.specs.Report.{eventOf}
+use Rattle.records.specs.Layout.{Layout, stepSize, numberAt, valueAt}
+use Rattle.records.specs.Report.{eventOf}
 use Rattle.counts.specs.Counts.{Step, isEntry, targetMode, isDoneCheck, exceptionTaken, counted, gain}
 use Rattle.counts.specs.Counts.{WORDS, GROUP-SIZE, COUNTS-SIZE}
 

@@ -6,8 +6,8 @@ use lib.ListN.{length}
 use Rattle.words.specs.Word.{word, Bytes}
 use Rattle.state.specs.Number.{DONE}
 use Rattle.rules.specs.declared.event.Event.{Event}
-use Rattle.trace.specs.Layout.{layout01}
-use Rattle.trace.specs.Report.{report, ACCEPTED}
+use Rattle.records.specs.Layout.{layout01}
+use Rattle.records.specs.Report.{report, ACCEPTED}
 use Rattle.counts.specs.Counts.{Step, stepsFrom, stepsOf, isEntry, isDoneCheck, howMany, count, gain, GROUP-SIZE, WORDS}
 use Rattle.counts.specs.Counts.{COUNTS-SIZE, countReturns, countLeaves}
 use Rattle.counts.specs.Lines.{lines}

@@ -1,6 +1,6 @@
 // One trace more, on top of the counts so far.
 ghost use mathlib.Core.Path.{_≡_};
-ghost use Rattle.trace.specs.Layout.{layout01};
+ghost use Rattle.records.specs.Layout.{layout01};
 ghost use Rattle.counts.specs.Counts.{countReturns, countLeaves};
 use crate::places::COUNTS_SIZE;
 use crate::tally::count_steps;
@@ -19,7 +19,7 @@ pub fn count(trace: &[u8], counts: &mut [u8]) -> u32
     if counts.len() != COUNTS_SIZE {
         return BAD_SIZE;
     }
-    let report = trace::check::check(trace);
+    let report = trace::check(trace);
     if report.number != DONE {
         return report.number;
     }

@@ -4,7 +4,7 @@ ghost use Prim.Native.Nat.{_+_, _*_, _/_, _%_, _≤_};
 ghost use lib.ListN.{length, drop};
 ghost use Rattle.state.specs.Choice.{if_then_else_};
 ghost use Rattle.entry.specs.Code.{isKnown, isSynchronous};
-ghost use Rattle.trace.specs.Layout.{layout01, startSize, stepSize, mostSteps, placeOf};
+ghost use Rattle.records.specs.Layout.{layout01, startSize, stepSize, mostSteps, placeOf};
 ghost use Rattle.counts.specs.Counts.{WORDS, GROUP-SIZE};
 ghost use Rattle.counts.specs.Parts.{
   shownStep,
@@ -20,7 +20,7 @@ ghost use Rattle.counts.specs.Parts.{
 use crate::places::GROUP_SIZE;
 use entry::code;
 use state::number::DONE;
-use trace::layout;
+use records::layout;
 use words::get_word;
 use words::put_word;
 use words::word_at;

@@ -7,9 +7,9 @@ use lib.ListN.{length, take, drop}
 use borrow.Author.Tests.{eq-eqb, ne-eqb}
 use Rattle.words.specs.Word.{spelt, Bytes}
 use Rattle.rules.specs.declared.verdict.Answer.{Answer}
-use Rattle.trace.specs.declared.check.Report.{Report}
-use Rattle.trace.specs.Layout.{Layout, Lawful, startSize, stepSize, numberAt, valueAt, blockAfterAt}
-use Rattle.trace.specs.Report.{eventOf, report, WRONG-STEP}
+use Rattle.records.specs.declared.report.Report.{Report}
+use Rattle.records.specs.Layout.{Layout, Lawful, startSize, stepSize, numberAt, valueAt, blockAfterAt}
+use Rattle.records.specs.Report.{eventOf, report, WRONG-STEP}
 use Rattle.explain.specs.declared.Difference.{Difference}
 use Rattle.explain.specs.Explain.{NUMBER-PART, parts, partWord, none, differing, stepDifference, wrongPart, explained, explanation}
 use Rattle.explain.proofs.Before.{WrongAt, wrong-at, before-last, wrong-within}

@@ -1,9 +1,9 @@
 -- The theorems of any lawful layout of whole words, and those of document 01's.
 use mathlib.Core.Path.{_≡_, refl, sym, _∙_}
 use Prim.Native.Nat.{_*_, _/_}
-use Rattle.trace.specs.Layout.{Layout, Lawful, layout01}
-use Rattle.trace.specs.Report.{report}
-use Rattle.trace.proofs.Lawful01.{lawful01}
+use Rattle.records.specs.Layout.{Layout, Lawful, layout01}
+use Rattle.records.specs.Report.{report}
+use Rattle.records.proofs.Lawful01.{lawful01}
 use Rattle.explain.specs.Theorems.{Theorems}
 use Rattle.explain.proofs.Before.{wrong-at, before-last}
 use Rattle.explain.proofs.Explains as any

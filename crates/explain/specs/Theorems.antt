@@ -4,8 +4,8 @@ use mathlib.Core.List.{List}
 use Prim.Native.Nat.{ℕ, _-_}
 use lib.ListN.{take, drop}
 use Rattle.words.specs.Word.{Bytes}
-use Rattle.trace.specs.Layout.{Layout}
-use Rattle.trace.specs.Report.{report, WRONG-STEP}
+use Rattle.records.specs.Layout.{Layout}
+use Rattle.records.specs.Report.{report, WRONG-STEP}
 use Rattle.explain.specs.declared.Explanation.{Explanation}
 use Rattle.explain.specs.Explain.{blockBefore, explanation}
 use Rattle.explain.specs.Claims.{Explains, Meets}

@@ -8,13 +8,13 @@ use rules::event::Event;
 use rules::verdict::Answer;
 use state::number::WRONG_STEP;
 use state::place;
-use trace::layout;
+use records::layout;
 use words::get_word;
 use words::word_at;
 ghost use mathlib.Core.Path.{_≡_};
 ghost use Prim.Native.Nat.{_+_, _-_, _≤_};
 ghost use lib.ListN.{length, take, drop};
-ghost use Rattle.trace.specs.Layout.{layout01, startSize, stepSize};
+ghost use Rattle.records.specs.Layout.{layout01, startSize, stepSize};
 ghost use Rattle.explain.specs.Explain.{parts, NUMBER-PART, partWord, differing, stepDifference, explanation};
 
 // The parts of a Step: the answer number, the value, and from BLOCK_PART on the words of the block after.
@@ -124,7 +124,7 @@ fn difference_at(trace: &[u8], step: u32) -> Difference
 pub fn explain(trace: &[u8]) -> Explanation
     ensures { λ r. ⌜ r ≡ explanation layout01 (now (trace .entry)) ⌝ }
 {
-    let report = trace::check::check(trace);
+    let report = trace::check(trace);
     if report.number != WRONG_STEP {
         return Explanation {
             number: report.number,

@@ -8,10 +8,10 @@ use lib.Seq.{drop-drop, drop-at, take-at, take-all, take-add, take-length, lengt
 use Rattle.words.specs.Word.{le32, put}
 use Rattle.rules.specs.declared.event.Event.{Event}
 use Rattle.rules.specs.Step.{ANSWER-SIZE, answerBytes, answer, after, blockLeft, answerLeft}
-use Rattle.trace.specs.Layout.{layout01, startSize, stepSize, endSize, endKind, numberAt, blockAfterAt}
-use Rattle.trace.specs.Published.{head, eventBytes, startRecord, stepShowing, stepRecord, endRecord}
-use Rattle.trace.proofs.Lawful01.{lawful01}
-use Rattle.trace.proofs.Records.{length-step}
+use Rattle.records.specs.Layout.{layout01, startSize, stepSize, endSize, endKind, numberAt, blockAfterAt}
+use Rattle.records.specs.Published.{head, eventBytes, startRecord, stepShowing, stepRecord, endRecord}
+use Rattle.records.proofs.Lawful01.{lawful01}
+use Rattle.records.proofs.Records.{length-step}
 use Rattle.machine.proofs.Laws.{length-after}
 use Rattle.machine.proofs.Leaving.{lent}
 use Rattle.machine.proofs.Replay.{cleared}

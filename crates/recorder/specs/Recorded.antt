@@ -8,9 +8,9 @@ use lib.ListN.{length, take, drop}
 use lib.Dec.{leb}
 use Rattle.state.specs.Choice.{if_then_else_, _is_}
 use Rattle.rules.specs.declared.event.Event.{Event}
-use Rattle.trace.specs.Layout.{Layout, startSize, stepSize, endSize, mostSteps}
-use Rattle.trace.specs.Published.{published}
-use Rattle.trace.specs.Report.{unless, _else_}
+use Rattle.records.specs.Layout.{Layout, startSize, stepSize, endSize, mostSteps}
+use Rattle.records.specs.Published.{published}
+use Rattle.records.specs.Report.{unless, _else_}
 pub use Rattle.state.specs.Number.{DONE, BAD-SIZE, BAD-COUNT, NO-ROOM}
 
 -- the bytes s with the bytes r in the place of its own from at on

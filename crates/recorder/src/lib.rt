@@ -7,15 +7,15 @@ use machine::step::replay;
 use rules::event::Event;
 use state::number;
 use state::place::BLOCK_SIZE;
-use trace::layout;
+use records::layout;
 use words::put_word;
 ghost use mathlib.Core.Path.{_≡_};
 ghost use mathlib.Core.List.{_++_};
 ghost use Prim.Native.Nat.{_+_, _-_, _≤_};
 ghost use lib.ListN.{length, take, drop};
 ghost use Rattle.state.specs.Choice.{if_then_else_, _is_};
-ghost use Rattle.trace.specs.Layout.{layout01, startSize, stepSize, endSize, mostSteps, placeOf, numberAt, blockAfterAt};
-ghost use Rattle.trace.specs.Published.{head, eventBytes, startRecord, stepRecord, endRecord};
+ghost use Rattle.records.specs.Layout.{layout01, startSize, stepSize, endSize, mostSteps, placeOf, numberAt, blockAfterAt};
+ghost use Rattle.records.specs.Published.{head, eventBytes, startRecord, stepRecord, endRecord};
 ghost use Rattle.recorder.specs.Recorded.{DONE, writtenAt, blockBefore, traceSize, recordNumber};
 
 // The bytes of the records.

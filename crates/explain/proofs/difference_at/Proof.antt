@@ -9,8 +9,8 @@ use Rattle.explain.proofs.difference_at.Statement.{statement}
 use Rattle.explain.proofs.difference_at.Tie as tie
 use Rattle.explain.specs.Explain.{stepDifference}
 use Rattle.state.specs.Place.{BLOCK-SIZE}
-use Rattle.trace.proofs.Judging.{copied, rest-is}
-use Rattle.trace.specs.Layout.{layout01}
+use Rattle.records.proofs.Judging.{copied, rest-is}
+use Rattle.records.specs.Layout.{layout01}
 
 -- what was handed over, seen from behind the copy
 abbrev start : tie.After-copy → tie.Start

@@ -5,8 +5,8 @@ use borrow.Author.Needs.{needs}
 use Rattle.explain.proofs.Explaining.{none-explained, wrong-explained, wrong-place}
 use Rattle.explain.proofs.explain.Statement.{statement}
 use Rattle.explain.proofs.explain.Tie as tie
-use Rattle.trace.proofs.Lawful01.{lawful01}
-use Rattle.trace.specs.Layout.{layout01}
+use Rattle.records.proofs.Lawful01.{lawful01}
+use Rattle.records.specs.Layout.{layout01}
 use Rattle.words.specs.Word.{Bytes}
 
 -- the string, and that it is bytes, seen from behind the check

@@ -9,7 +9,7 @@ use Rattle.explain.proofs.first_difference.Statement.{statement}
 use Rattle.explain.proofs.first_difference.Tie as tie
 use Rattle.explain.specs.Explain.{NUMBER-PART, BLOCK-PART, parts, partWord}
 use Rattle.state.specs.Place.{PLACES}
-use Rattle.trace.specs.Layout.{layout01}
+use Rattle.records.specs.Layout.{layout01}
 use Rattle.words.specs.Word.{word}
 
 abbrev Inv-loop : tie.InvT-loop

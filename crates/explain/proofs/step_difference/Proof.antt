@@ -6,9 +6,9 @@ use Rattle.explain.proofs.step_difference.Statement.{statement}
 use Rattle.explain.proofs.step_difference.Tie as tie
 use Rattle.rules.specs.Step.{answer, after}
 use Rattle.rules.specs.declared.event.Event.{Event}
-use Rattle.trace.proofs.Judging.{event-read}
-use Rattle.trace.specs.Layout.{layout01}
-use Rattle.trace.specs.Report.{eventOf}
+use Rattle.records.proofs.Judging.{event-read}
+use Rattle.records.specs.Layout.{layout01}
+use Rattle.records.specs.Report.{eventOf}
 
 -- what was handed over, seen from where the event is read
 abbrev start : tie.After-word-at3 → tie.Start

@@ -5,10 +5,10 @@ use native.Mathlib.Omega.{arith}
 use lib.ListN.{length}
 use borrow.Author.Needs.{needs}
 use borrow.Author.Tests.{eq-eqb, ne-eqb}
-use Rattle.trace.specs.Layout.{layout01, startSize}
-use Rattle.trace.specs.Published.{startRecord}
-use Rattle.trace.proofs.Lawful01.{lawful01}
-use Rattle.trace.proofs.Records.{length-start}
+use Rattle.records.specs.Layout.{layout01, startSize}
+use Rattle.records.specs.Published.{startRecord}
+use Rattle.records.proofs.Lawful01.{lawful01}
+use Rattle.records.proofs.Records.{length-start}
 use Rattle.recorder.proofs.Checks.{Passed, passed}
 use Rattle.recorder.proofs.Writing.{length-part, over-part}
 use Rattle.recorder.proofs.begin.Statement.{statement}

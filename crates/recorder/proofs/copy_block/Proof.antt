@@ -5,7 +5,7 @@ use native.Mathlib.Omega.{arith}
 use lib.ListN.{length}
 use lib.Seq.{paste}
 use borrow.Author.Needs.{needs}
-use Rattle.trace.specs.Layout.{layout01, blockAfterAt}
+use Rattle.records.specs.Layout.{layout01, blockAfterAt}
 use Rattle.recorder.proofs.Moving.{moved-none, moved-next, moved-all, moved-length}
 use Rattle.recorder.proofs.copy_block.Statement.{statement}
 use Rattle.recorder.proofs.copy_block.Tie as tie

@@ -1,9 +1,9 @@
 -- The part from the place on is written over from its front on.
 use borrow.Author.Needs.{needs}
 use Prim.Native.Nat.{_+_}
-use Rattle.trace.specs.Layout.{layout01, endSize, placeOf}
-use Rattle.trace.specs.Published.{endRecord}
-use Rattle.trace.proofs.Records.{length-end}
+use Rattle.records.specs.Layout.{layout01, endSize, placeOf}
+use Rattle.records.specs.Published.{endRecord}
+use Rattle.records.proofs.Records.{length-end}
 use Rattle.recorder.proofs.Writing.{over-part}
 use Rattle.recorder.proofs.finish.Statement.{statement}
 use Rattle.recorder.proofs.finish.Tie as tie

@@ -2,7 +2,7 @@
 use Prim.Native.Nat.{_+_, _*_}
 use native.Mathlib.Omega.{arith}
 use borrow.Author.Needs.{needs}
-use Rattle.trace.specs.Layout.{layout01, stepSize, placeOf, startBlockAt}
+use Rattle.records.specs.Layout.{layout01, stepSize, placeOf, startBlockAt}
 use Rattle.recorder.proofs.Records.{step-behind}
 use Rattle.recorder.proofs.go_on.Statement.{statement}
 use Rattle.recorder.proofs.go_on.Tie as tie

@@ -2,7 +2,7 @@
 use mathlib.Core.Path.{_≡_, sym}
 use Prim.Native.Nat.{_<_, _≤_}
 use borrow.Author.Needs.{needs}
-use Rattle.trace.specs.Layout.{layout01}
+use Rattle.records.specs.Layout.{layout01}
 use Rattle.recorder.proofs.Checks.{bad-size, bad-count, past-the-end, no-room, room}
 use Rattle.recorder.proofs.number_of.Statement.{statement}
 use Rattle.recorder.proofs.number_of.Tie as tie

@@ -24,8 +24,8 @@ use borrow.Fn.Learn.{no-owns}
 use borrow.Fn.Run.{Over}
 use borrow.Fn.World.{World}
 use borrow.Fn.Written as written
-use Rattle.trace.specs.Layout.{Layout, Lawful, layout01}
-use Rattle.trace.proofs.Lawful01.{lawful01}
+use Rattle.records.specs.Layout.{Layout, Lawful, layout01}
+use Rattle.records.proofs.Lawful01.{lawful01}
 use Rattle.recorder.proofs.Reached.{Reached, reached-none, reached-next, reached-all, same-size, room-for-a-step}
 use Rattle.recorder.proofs.Reached.{room-for-the-end, not-begun, recorded-not, may-go-on, begun-length, begun-again}
 use Rattle.recorder.proofs.Reached.{recorded-all}

@@ -2,7 +2,7 @@
 use mathlib.Core.Path.{ap, _∙_}
 use borrow.Author.Needs.{needs}
 use borrow.Author.Tests.{eq-eqb, ne-eqb}
-use Rattle.trace.specs.declared.check.Report.{Report}
+use Rattle.records.specs.declared.report.Report.{Report}
 use Rattle.console.specs.Check.{reportBytes}
 use Rattle.console.specs.Session.{closeReturns, closeKeeps, closeLeaves}
 use Rattle.console.proofs.session.close_into.Statement.{statement}

@@ -41,9 +41,9 @@ use denote.Triple.Statement.{Contract, Triple}
 use denote.Triple.Call.{calls-at}
 use denote.Triple.Table.{entered, cited}
 use denote.Triple.Walked.{Stays, stay-ref, gave-slice, walkOf, says, ends-at, Walks, walked, AllGo, goes-ref, goes-gave-slice, walk-meets}
-use Rattle.trace.specs.declared.session.Progress.{Progress}
-use Rattle.trace.specs.declared.session.Session.{Session}
-use Rattle.trace.specs.Session.{session}
+use Rattle.records.specs.declared.session.Progress.{Progress}
+use Rattle.records.specs.declared.session.Session.{Session}
+use Rattle.records.specs.Session.{session}
 use Rattle.console.specs.declared.session.Closing.{Closing}
 use Rattle.console.specs.Session.{closeReturns, closeKeeps, closeLeaves, Closes}
 use Rattle.console.proofs.session.Closing as closing

@@ -41,17 +41,17 @@ use denote.Triple.Table.{entered, cited}
 use denote.Triple.Walked.{Stays, stay-ref, stay-none-slice, walkOf, says, ends-at, Walks, walked, AllGo, goes-ref, goes-none-slice}
 use denote.Triple.Walked.{walk-meets}
 use denote.Exit.{yes}
-use Rattle.trace.specs.declared.session.Progress.{Progress}
-use Rattle.trace.specs.declared.session.Session.{Session}
-use Rattle.trace.specs.Layout.{layout01}
-use Rattle.trace.specs.Session.{session, fed, feedNumber}
-use Rattle.trace.proofs.session.Progress.Laws as progress-laws
-use Rattle.trace.proofs.session.feed as feed
-use Rattle.trace.proofs.session.feed.Symbol as feed-symbol
-use Rattle.trace.proofs.session.feed.Met as feed-met
-use Rattle.trace.proofs.session.feed_number as number
-use Rattle.trace.proofs.session.feed_number.Symbol as number-symbol
-use Rattle.trace.proofs.session.feed_number.Met as number-met
+use Rattle.records.specs.declared.session.Progress.{Progress}
+use Rattle.records.specs.declared.session.Session.{Session}
+use Rattle.records.specs.Layout.{layout01}
+use Rattle.records.specs.Session.{session, fed, feedNumber}
+use Rattle.records.proofs.session.Progress.Laws as progress-laws
+use Rattle.session.proofs.feed as feed
+use Rattle.session.proofs.feed.Symbol as feed-symbol
+use Rattle.session.proofs.feed.Met as feed-met
+use Rattle.session.proofs.feed_number as number
+use Rattle.session.proofs.feed_number.Symbol as number-symbol
+use Rattle.session.proofs.feed_number.Met as number-met
 use Rattle.console.specs.Session.{Feeds}
 use Rattle.console.proofs.Walking.{ungroup, into, value, behind, reference, lent, given-back, answered, freed}
 use Rattle.console.proofs.Lending.{Whole, Numbers, Block, Unfinished, blockAt, unfinishedAt, words, is-words, fit, typed}

@@ -38,14 +38,14 @@ use denote.Triple.Statement.{Contract, Triple}
 use denote.Triple.Call.{calls-at}
 use denote.Triple.Table.{entered, cited}
 use denote.Triple.Walked.{says, Stays, stay-ref, walkOf, AllGo, goes-ref, Walks, ends-at, walked, walk-meets}
-use Rattle.trace.specs.declared.session.Session.{Session}
-use Rattle.trace.specs.Layout.{layout01}
-use Rattle.trace.specs.Session.{opened}
-use Rattle.trace.proofs.session.Session as whole
-use Rattle.trace.proofs.session.Session.Laws as whole-laws
-use Rattle.trace.proofs.session.«open» as callee
-use Rattle.trace.proofs.session.«open».Symbol as callee-symbol
-use Rattle.trace.proofs.session.«open».Met as callee-met
+use Rattle.records.specs.declared.session.Session.{Session}
+use Rattle.records.specs.Layout.{layout01}
+use Rattle.records.specs.Session.{opened}
+use Rattle.records.proofs.session.Session as whole
+use Rattle.records.proofs.session.Session.Laws as whole-laws
+use Rattle.session.proofs.«open» as callee
+use Rattle.session.proofs.«open».Symbol as callee-symbol
+use Rattle.session.proofs.«open».Met as callee-met
 use Rattle.console.specs.Session.{Opens}
 use Rattle.console.proofs.Walking.{ungroup, into, value, answered, freed}
 use Rattle.console.proofs.Lending.{Whole}

@@ -7,8 +7,8 @@ use native.Mathlib.Omega.{arith}
 use borrow.Author.Needs.{needs}
 use borrow.Author.Tests.{not-false}
 use Rattle.words.specs.Word.{Bytes}
-use Rattle.trace.specs.Layout.{layout01}
-use Rattle.trace.proofs.Lawful01.{lawful01}
+use Rattle.records.specs.Layout.{layout01}
+use Rattle.records.proofs.Lawful01.{lawful01}
 use Rattle.counts.proofs.Bumping.{tally-none}
 use Rattle.counts.proofs.Reading.{steps-few, steps-whole, bad-size, refused, found-full, found-done}
 use Rattle.counts.proofs.count.count.Statement.{statement}

@@ -5,7 +5,7 @@ use Prim.Native.Nat.{ℕ, _-_}
 use native.Mathlib.Omega.{arith}
 use borrow.Author.Needs.{needs}
 use lib.ListN.{length, take, drop, replicate, length-drop}
-use Rattle.trace.proofs.Judging.{rest-is}
+use Rattle.records.proofs.Judging.{rest-is}
 use Rattle.counts.specs.Lines.{lines}
 use Rattle.counts.specs.Parts.{TEXT-SIZE, Pushed}
 use Rattle.counts.proofs.Lining.{put-bad-size, put-no-room, put-done}

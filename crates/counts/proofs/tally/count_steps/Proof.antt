@@ -5,8 +5,8 @@ use Prim.Native.Nat.{ℕ, _+_, _-_, _≤_}
 use native.Mathlib.Omega.{arith}
 use borrow.Author.Needs.{needs}
 use lib.ListN.{length, drop, length-drop}
-use Rattle.trace.proofs.Judging.{rest-is}
-use Rattle.trace.specs.Layout.{layout01, stepSize}
+use Rattle.records.proofs.Judging.{rest-is}
+use Rattle.records.specs.Layout.{layout01, stepSize}
 use Rattle.counts.specs.Parts.{Counted, shownStep}
 use Rattle.counts.proofs.Tallying.{Passed, passed-none, passed-tally, passed-whole, passed-next, passed-all}
 use Rattle.counts.proofs.tally.count_steps.Statement.{statement}

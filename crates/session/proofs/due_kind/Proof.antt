@@ -1,0 +1,12 @@
+-- The three ways out are those of the record due.
+use borrow.Author.Tests.{eq-eqb, ne-eqb, lt-ltb, le-ltb}
+use Rattle.session.proofs.due_kind.Statement.{statement}
+use Rattle.session.proofs.due_kind.Tie as tie
+
+pub due-kind-spec : {M : Type 1} → statement M
+due-kind-spec =
+    tie.close
+    (tie.spec
+    (λ c. simp (eq-eqb _ _ (c .if1 .taken)))
+    (λ c. simp (ne-eqb _ _ (c .before .before .if1 .left), lt-ltb _ _ (c .if2 .taken)))
+    (λ c. simp (ne-eqb _ _ (c .before .before .if1 .left), le-ltb _ _ (c .if2 .left))))
