@@ -50,7 +50,7 @@ after-with b e h =
 
 -- ---- lawful
 
-lawful-old : Lawful oldLayout
+pub lawful-old : Lawful oldLayout
 lawful-old =
     record {
       step-fits = lit< tt;
@@ -67,7 +67,7 @@ lawful-old =
       value-fits = λ b e h by. value-fits (withHdcr0 b) (seen true e) (bytes-with b by);
     }
 
-lawful-new : Lawful newLayout
+pub lawful-new : Lawful newLayout
 lawful-new =
     record {
       step-fits = lit< tt;

@@ -2,18 +2,20 @@
 use lib.ListN.{drop}
 use Prim.Native.Nat.{_-_}
 use borrow.Author.Needs.{needs}
-use Rattle.trace.proofs.Lawful01.{lawful01}
+use Rattle.records.proofs.Lawfuls.{lawful}
 use Rattle.records.proofs.Judging.{Reached, reached-none, reached-next, reached-wrong, reached-all, rest-is}
 use Rattle.judgements.proofs.judge_each.Statement.{statement}
 use Rattle.judgements.proofs.judge_each.Tie as tie
-use Rattle.records.specs.Judged.{Judged}
-use Rattle.records.specs.Layout.{layout01}
+use Rattle.records.specs.Judged.{narrow, IsWide, JudgedWide}
+use Rattle.records.specs.Layout.{layout}
 
+-- so many Steps are right, and the block is the layout's still
 abbrev Inv-loop : tie.InvT-loop
-Inv-loop r count block₀ k₀ at₀ block k at = Reached layout01 r count block₀ block k at
+Inv-loop old r count block₀ size k₀ at₀ block k at =
+    Reached (layout old) r count (narrow old block₀) (narrow old block) k at × IsWide old block
 
 abbrev μ-loop : tie.MeasureT-loop
-μ-loop r count block₀ k₀ at₀ block k at = count - k
+μ-loop old r count block₀ size k₀ at₀ block k at = count - k
 
 -- what was handed over, seen from the loop; and the turn, seen from behind the judgement of its Step
 abbrev start : tie.At-loop Inv-loop μ-loop → tie.Start Inv-loop μ-loop
@@ -24,21 +26,24 @@ turn c = c .before .before .before
 
 judged : (c : tie.After-judge-step Inv-loop μ-loop)
     → let at = turn c .before in
-    Judged layout01 (drop (at .loop .at) (start at .args .r .now)) (at .loop .block) (c .judge-step .result)
+    JudgedWide (start at .args .old) (drop (at .loop .at) (start at .args .r .now)) (at .loop .block) (c .judge-step .result)
     (c .judge-step .last .1 .0)
 judged c = let at = turn c .before in rw (rest-is (start at .args .r .now) (at .loop .at)) at (c .judge-step .ensures)
 
 returns : tie.Need-returns Inv-loop μ-loop
 returns c =
     let step = c .before .before .before in
-    reached-wrong layout01 lawful01 _ _ _ _ _ _ (turn step .before .loop .inv) (turn step .loop-test .taken) _ _ (judged step)
-    (c .if1 .taken)
+    let old = start (turn step .before) .args .old in
+    reached-wrong (layout old) (lawful old) _ _ _ _ _ _ (turn step .before .loop .inv .0) (turn step .loop-test .taken) _ _
+    (judged step .judged) (c .if1 .taken)
 
 loop-again : tie.Need-loop-again Inv-loop μ-loop
 loop-again c =
     let step = c .before .before .before in
-    reached-next layout01 lawful01 _ _ _ _ _ _ (turn step .before .loop .inv) (turn step .loop-test .taken) _ _ (judged step)
-    (c .if1 .left)
+    let old = start (turn step .before) .args .old in
+    let next = reached-next (layout old) (lawful old) _ _ _ _ _ _ (turn step .before .loop .inv .0) (turn step .loop-test .taken) _ _
+    (judged step .judged) (c .if1 .left) in
+    (next, judged step .still (c .if1 .left))
 
 pub judge-each-spec : {M : Type 1} → statement M
 judge-each-spec =
@@ -46,11 +51,11 @@ judge-each-spec =
     (tie.spec
     Inv-loop
     μ-loop
-    (λ c. reached-none layout01 _ _ _ (c .before .before .pre))
     (λ c. search needs)
     (λ c. search needs)
     (λ c. search needs)
-    (λ c κs. c .before .before .before .loop .inv .size)
+    (λ c. search needs)
+    (λ c κs. c .before .before .before .loop .inv .1)
     (λ c. search needs)
     returns
     (λ c. search needs)
@@ -59,4 +64,4 @@ judge-each-spec =
     (λ c. search needs)
     loop-again
     (λ c. search needs)
-    (λ c. reached-all layout01 _ _ _ _ _ _ (c .before .loop .inv) (c .loop-test .left)))
+    (λ c. search needs))
