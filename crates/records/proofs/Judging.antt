@@ -215,9 +215,9 @@ module _ (L : Layout) (LL : Lawful L) (r : List ℕ) (count : ℕ) (b c : List �
   behind : n ≡ numberBehind L k b r
   behind = j .number ∙ (λ i. stepNumber L (here .block i) (drop (here .place i) r))
 
-  pub reached-next : n ≡ 0 → Reached L r count b d (k + 1) (at + stepSize L)
+  pub reached-next : (size : ℕ) → size ≡ stepSize L → n ≡ 0 → Reached L r count b d (k + 1) (at + size)
   unfolding blockAfter
-  reached-next z =
+  reached-next size s z =
       let e : d ≡ L .after c (eventOf (drop at r)) = j .block z in
       let whole : stepSize L ≤ length (drop at r) = step-whole L c (drop at r) (sym (j .number) ∙ z) in
       let up : suc k ≡ k + 1 = omega arith in

@@ -2,12 +2,12 @@
 -- old one knows leaves HDCR 0.
 use mathlib.Core.Path.{_≡_, refl, sym, ap, _∙_}
 use mathlib.Core.Bool.{Bool, true, false, _&&_}
-use mathlib.Core.List.{List, _++_}
-use Prim.Native.Nat.{ℕ, _+_}
+use mathlib.Core.List.{List, _++_, append-nil}
+use Prim.Native.Nat.{ℕ, _+_, _≤_}
 use native.Mathlib.Omega.{arith}
-use lib.Dec.{lit<}
-use lib.ListN.{length, take, drop, length-append, length-take, take-append-drop}
-use lib.Seq.{take-at, take-all, drop-at}
+use lib.Dec.{lit<, lit≤}
+use lib.ListN.{length, take, drop, replicate, length-append, length-take, take-append-drop}
+use lib.Seq.{take-at, take-all, take-length, drop-at}
 use Rattle.words.specs.Word.{le32, Bytes}
 use Rattle.words.proofs.Laws.{bytes-le32}
 use Rattle.words.proofs.Spell.{bytes-append, bytes-take}
@@ -87,6 +87,11 @@ lawful false = lawful-new
 
 -- ---- a block of either layout as the machine has it
 
+-- it has room there
+pub size-few : (old : Bool) → layout old .size ≤ BLOCK-SIZE
+size-few true = lit≤ tt
+size-few false = lit≤ tt
+
 pub wide-after : (old : Bool) (b : List ℕ) (e : Event) → length b ≡ layout old .size
     → after (wide old b) (seen old e) ≡ wide old (layout old .after b e)
 wide-after true b e h = after-with b e h
@@ -103,6 +108,17 @@ length-wide false b h = h
 pub narrow-wide : (old : Bool) (b : List ℕ) → length b ≡ layout old .size → take (layout old .size) (wide old b) ≡ b
 narrow-wide true b h = take-at b (le32 0) OLD-BLOCK-SIZE h
 narrow-wide false b h = take-all BLOCK-SIZE b (omega arith)
+
+-- copied over zeros it is
+pub wide-copied : (old : Bool) (b c : List ℕ) → length b ≡ layout old .size
+    → c ≡ take (length b) b ++ drop (length b) (replicate BLOCK-SIZE 0) → c ≡ wide old b
+wide-copied old b c h e =
+    e ∙ ap (λ l. l ++ drop (length b) (replicate BLOCK-SIZE 0)) (take-length b)
+    ∙ ap (λ n. b ++ drop n (replicate BLOCK-SIZE 0)) h ∙ behind old
+  where
+    behind : (t : Bool) → b ++ drop (layout t .size) (replicate BLOCK-SIZE 0) ≡ wide t b
+    behind true = refl
+    behind false = append-nil b
 
 -- a block that is such a one
 module _ (old : Bool) where
