@@ -7,6 +7,7 @@ use lib.ListN.{length, take, drop, length-append, length-drop, drop-of-length-le
 use lib.Seq.{drop-drop, drop-at, take-at, take-all, take-add, take-length, length-take-le}
 use Rattle.words.specs.Word.{le32, put}
 use Rattle.rules.specs.declared.event.Event.{Event}
+use Rattle.rules.specs.Known.{seen}
 use Rattle.rules.specs.Step.{ANSWER-SIZE, answerBytes, answer, after, blockLeft, answerLeft}
 use Rattle.records.specs.Layout.{newLayout, startSize, stepSize, endSize, endKind, numberAt, blockAfterAt}
 use Rattle.records.specs.Published.{head, eventBytes, startRecord, stepShowing, stepRecord, endRecord}
@@ -114,7 +115,7 @@ pub step-written : (p : List ℕ) (e : Event) → newLayout .size + stepSize new
     → u ≡ take (length m) m ++ drop (length m) (take (length stepped - answerAt) (drop answerAt stepped))
     → take answerAt stepped ++ (u ++ drop (length stepped - answerAt) (drop answerAt stepped))
     ≡ writtenAt p size (stepRecord newLayout (take size p) e)
-unfolding stepShowing
+unfolding seen stepShowing
 step-written p e l {q} {t} {c} {m} {u} e₀ e₁ e₂ e₃ e₄ =
     let size = newLayout .size in
     let b = take size p in
@@ -186,6 +187,7 @@ pub step-behind : (s : List ℕ) (place before : ℕ) (e : Event) → place ≡ 
     c ≡ writtenAt part (newLayout .size) (stepRecord newLayout (take (newLayout .size) part) e)
     → take before s ++ (c ++ drop (length s - before) (drop before s))
     ≡ writtenAt s place (stepRecord newLayout (blockBefore newLayout place s) e)
+unfolding seen
 step-behind s place before e k l {c} h =
     let size = newLayout .size in
     let b = take size (drop before s) in
