@@ -19,7 +19,7 @@ use Rattle.rules.specs.declared.event.Event.{Event}
 use Rattle.machine.proofs.Behind.{behind-stays}
 use Rattle.machine.proofs.Laws.{length-after, bytes-after, number-fits, value-fits}
 use Rattle.records.specs.Judged.{wide, narrow, IsWide}
-use Rattle.records.specs.Layout.{withHdcr0, oldLayout, newLayout, layout, Lawful}
+use Rattle.records.specs.Layout.{withHdcr0, oldLayout, newLayout, layout, mostSteps, placeOf, Lawful}
 
 -- ---- an old block with HDCR 0
 
@@ -84,6 +84,11 @@ lawful-new =
 pub lawful : (old : Bool) → Lawful (layout old)
 lawful true = lawful-old
 lawful false = lawful-new
+
+-- a word holds every place
+pub place-few : (old : Bool) (k : ℕ) → k ≤ mostSteps → placeOf (layout old) k ≤ placeOf newLayout mostSteps
+place-few true k h = omega arith
+place-few false k h = omega arith
 
 -- ---- a block of either layout as the machine has it
 

@@ -12,6 +12,8 @@ pub mod Determined
 pub mod Checkers
 pub mod Cases
 pub mod Theorems
+pub mod Heads
+pub mod Eithers
 pub mod Feeding
 pub mod Taking
 pub mod Arriving

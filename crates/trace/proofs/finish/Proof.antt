@@ -4,7 +4,7 @@ use borrow.Author.Needs.{needs}
 use Rattle.records.proofs.Judging.{end-wrong, end-more, end-right}
 use Rattle.trace.proofs.finish.Statement.{statement}
 use Rattle.trace.proofs.finish.Tie as tie
-use Rattle.records.specs.Layout.{layout01}
+use Rattle.records.specs.Layout.{newLayout}
 use Rattle.records.specs.Report.{endNumber}
 
 -- what was handed over, seen from behind the judgement of End
@@ -19,7 +19,7 @@ returns c =
     let args = start (c .before) .args in
     let e = c .before .judge-end .ensures in
     (λ i. record { number = e i; place = args .place; steps = args .steps })
-    ∙ sym (end-wrong layout01 (args .steps) (args .place) (args .r .now) (λ z. c .if1 .taken (e ∙ z)))
+    ∙ sym (end-wrong newLayout (args .steps) (args .place) (args .r .now) (λ z. c .if1 .taken (e ∙ z)))
 
 pub finish-spec : {M : Type 1} → statement M
 finish-spec =
@@ -29,6 +29,6 @@ finish-spec =
     returns
     (λ c. search needs)
     (λ c. search needs)
-    (λ c. sym (end-more layout01 _ _ _ (right-end (c .before)) (c .if2 .taken)))
+    (λ c. sym (end-more newLayout _ _ _ (right-end (c .before)) (c .if2 .taken)))
     (λ c. search needs)
-    (λ c. sym (end-right layout01 _ _ _ (right-end (c .before)) (c .if2 .left))))
+    (λ c. sym (end-right newLayout _ _ _ (right-end (c .before)) (c .if2 .left))))
