@@ -1,15 +1,16 @@
 -- A wrong Start is reported at once; from a right one the judgement goes on with the copy of its block.
 use mathlib.Core.List.{List}
 use mathlib.Core.Path.{_≡_, sym, ap, _∙_}
-use Prim.Native.Nat.{ℕ, _-_}
+use Prim.Native.Nat.{ℕ, _-_, _≤_}
 use borrow.Author.Needs.{needs}
-use lib.ListN.{length, take, drop, replicate, length-take}
+use lib.ListN.{length, take, drop, replicate, length-take, length-replicate}
 use native.Mathlib.Omega.{arith}
 use Rattle.records.proofs.Judging.{start-wrong, start-right, start-whole, block-whole, copied}
 use Rattle.records.proofs.Lawfuls.{size-few}
 use Rattle.records.specs.Claims.{startOf}
 use Rattle.records.specs.Layout.{Layout, layout, startSize, startBlockAt}
 use Rattle.records.specs.Report.{startNumber, reportFrom}
+use Rattle.state.specs.Place.{BLOCK-SIZE}
 use Rattle.trace.proofs.check_in.Statement.{statement}
 use Rattle.trace.proofs.check_in.Tie as tie
 
@@ -48,12 +49,16 @@ src-is c =
 src-size : (c : tie.After-start-size) → length (src c) ≡ L (measured c .before) .size
 src-size c = ap length (src-is c) ∙ block-whole (L (measured c .before)) _ (right (measured c))
 
+abbrev zeros : List ℕ
+zeros = replicate BLOCK-SIZE 0
+
 abbrev room : tie.After-block-size → List ℕ
-room c = take (c .block-size .result) (replicate 180 0)
+room c = take (c .block-size .result) zeros
 
 room-size : (c : tie.After-block-size) → length (room c) ≡ c .block-size .result
 room-size c =
-    omega (arith, length-take (c .block-size .result) (replicate 180 0), c .block-size .ensures, size-few (start (sized c .before) .args .old))
+    let few = size-few (start (sized c .before) .args .old) in
+    omega (arith, length-take (c .block-size .result) zeros, length-replicate {A = ℕ} BLOCK-SIZE 0, c .block-size .ensures, few)
 
 -- the copy is the Start's block
 abbrev copying : tie.After-copy → tie.After-start-size
