@@ -73,7 +73,7 @@ pub fn judge_start(old: bool, r: &[u8]) -> u32
 }
 
 // The code of an event as the layout sees it: one that it does not know is none.
-fn seen_code(old: bool, code: u32, a: u32) -> u32
+pub fn seen_code(old: bool, code: u32, a: u32) -> u32
     ensures { λ n. ⌜ SeenCode old code a n ⌝ }
 {
     if !old {
