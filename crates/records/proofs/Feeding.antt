@@ -237,7 +237,7 @@ module _ (L : Layout) where
   pub due-most : (p : Progress) → dueSize L p ≤ stepSize L
   due-most p = due-all (λ n. n ≤ stepSize L) p _ _ _ (omega arith) (omega arith) (omega arith)
 
-  byte-held : (s : Session) (x : ℕ) → Takes L (s .progress) → fedByte L s x ≡ looked L (grown L s (x ∷ []))
+  pub byte-held : (s : Session) (x : ℕ) → Takes L (s .progress) → fedByte L s x ≡ looked L (grown L s (x ∷ []))
   unfolding fedByte
   byte-held s x t = simp (t .live, t .going, lt-ltb (s .progress .held) (dueSize L (s .progress)) (t .room))
 

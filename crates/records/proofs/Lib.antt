@@ -18,4 +18,6 @@ pub mod Feeding
 pub mod Taking
 pub mod Arriving
 pub mod Knowing
+pub mod Standing
 pub mod Arrivals
+pub mod Joining

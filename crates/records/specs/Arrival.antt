@@ -10,11 +10,13 @@ use Rattle.state.specs.Choice.{if_then_else_, _is_}
 use Rattle.records.specs.declared.report.Report.{Report}
 use Rattle.records.specs.declared.session.Progress.{Progress}
 use Rattle.records.specs.declared.session.Session.{Session}
-use Rattle.records.specs.Layout.{Layout}
+use Rattle.records.specs.Layout.{Layout, layoutOf}
 use Rattle.records.specs.Published.{Published}
 use Rattle.records.specs.Report.{report, ACCEPTED, SHORT, TRAILING}
 use Rattle.records.specs.Claims.{judgedTo}
 use Rattle.records.specs.Session.{CLOSED, feedNumber, closing, shutting, shut, opened, fed, fedAll}
+use Rattle.records.specs.Session.{openedSession, fedSession, fedRuns}
+use Rattle.records.specs.Either.{reportOf, PublishedInOne}
 
 -- all bytes of these runs
 abbrev pub joined : List (List ℕ) → List ℕ
@@ -65,3 +67,35 @@ pub record Arrival (L : Layout) : Type 0 where
   -- closing again gives the same three numbers, and changes nothing
   pub closes-again : (p : Progress) → closing (shutting p) ≡ closing p
   pub shut-again : (s : Session) → shut (shut s) ≡ shut s
+
+-- the same of the session that is shipped, whose bytes may be of either layout
+pub record ArrivalOfBoth : Type 0 where
+  -- ---- a session that was opened, fed these runs, and closed
+
+  -- however the bytes are cut, every byte of the session is the same
+  pub however-cut : (rs : List (List ℕ)) → fedRuns openedSession rs ≡ fedSession openedSession (joined rs)
+  -- closing gives the report of the whole
+  pub closes-with-the-report : (rs : List (List ℕ)) → closing (fedRuns openedSession rs .progress) ≡ reportOf (joined rs)
+  -- so demand 3 holds of it: number 0 exactly where the bytes are a published trace of either layout and nothing more
+  pub accepts-exactly : (rs : List (List ℕ)) → Bytes (joined rs)
+      → (closing (fedRuns openedSession rs .progress) .number ≡ ACCEPTED) ↔ PublishedInOne (joined rs)
+  -- ---- what a feeding answers, of the bytes up to its last
+
+  -- the number that closing would give, but that SHORT is none yet
+  pub answers : (s : List ℕ) → feedNumber (fedSession openedSession s .progress) ≡ knownNumber (reportOf s .number)
+  -- a fault is answered from the very byte on with which it is known, and before it 0
+  pub known-exactly : (s : List ℕ) (j : ℕ) → j ≤ length s → (reportOf s .number ≡ ACCEPTED → ⊥) → (reportOf s .number ≡ SHORT → ⊥)
+      → feedNumber (fedSession openedSession (take j s) .progress)
+      ≡ (if leb (knownWith (layoutOf s) s (reportOf s)) j then reportOf s .number else 0)
+  -- where the string has no fault, or is short, 0 is answered all along
+  pub nothing-known : (s : List ℕ) (j : ℕ) → knownNumber (reportOf s .number) ≡ 0
+      → feedNumber (fedSession openedSession (take j s) .progress) ≡ 0
+  -- SHORT is never answered
+  pub never-short : (s : List ℕ) → feedNumber (fedSession openedSession s .progress) ≡ SHORT → ⊥
+  -- ---- any session, also one that nobody opened
+
+  -- an empty run changes nothing
+  pub empty-run : (s : Session) → fedSession s [] ≡ s
+  -- once a fault is known no byte changes anything, nor after closing
+  pub fault-stays : (s : Session) (r : List ℕ) → (s .progress .fault ≡ 0 → ⊥) → fedSession s r ≡ s
+  pub closed-stays : (s : Session) (r : List ℕ) → (s .progress .closed ≡ 0 → ⊥) → fedSession s r ≡ s

@@ -222,3 +222,8 @@ fedSession s r =
     let old = comesOld (s .progress) (s .unfinished) r in
     let t = fed (layout old) (narrowed old s) r in
     if s .progress .fault is 0 && not (t .progress .fault is 0) then numbersOf t else widened old s t
+
+-- run after run
+unfoldable pub fedRuns : Session → List (List ℕ) → Session
+fedRuns s [] = s
+fedRuns s (r ∷ rs) = fedRuns (fedSession s r) rs
