@@ -5,8 +5,8 @@ ghost use lib.ListN.{length};
 ghost use Rattle.records.specs.Layout.{layout01};
 ghost use Rattle.records.specs.Published.{Published};
 ghost use Rattle.console.specs.Check.{reportSize, reportBytes, checkReturns, checkLeaves};
-use state::number;
 use records::report::Report;
+use state::number;
 use words::put_word;
 
 pub(crate) const REPORT_SIZE: usize = 12;

@@ -4,9 +4,9 @@ ghost use mathlib.Core.Path.{_≡_};
 ghost use Rattle.console.specs.Session.{Opens, Feeds, Closes, closeReturns, closeLeaves, closeKeeps};
 use crate::check::REPORT_SIZE;
 use crate::check::put_report;
-use state::number;
 use records::session::Progress;
 use records::session::Session;
+use state::number;
 
 // Begins a trace, whatever the session held.
 #[no_mangle]

@@ -19,8 +19,8 @@ ghost use Rattle.counts.specs.Parts.{
 };
 use crate::places::GROUP_SIZE;
 use entry::code;
-use state::number::DONE;
 use records::layout;
+use state::number::DONE;
 use words::get_word;
 use words::put_word;
 use words::word_at;

@@ -4,11 +4,11 @@
 // The block before is not stepped to again: the records before the Step were judged right, so it is the last 176 bytes
 // before the Step, the start block or the block after of the Step before.
 use machine::step::step_event;
+use records::layout;
 use rules::event::Event;
 use rules::verdict::Answer;
 use state::number::WRONG_STEP;
 use state::place;
-use records::layout;
 use words::get_word;
 use words::word_at;
 ghost use mathlib.Core.Path.{_≡_};

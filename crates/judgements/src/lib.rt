@@ -1,5 +1,10 @@
 // What is said of a Start, of a Step and of an End, each by the rest of the trace from the record's first byte on: the
 // fault's number, or ACCEPTED.
+use entry::code::NOTE;
+use entry::code::PREFETCH_ABORT;
+use entry::route::is_debug;
+use machine::step::ANSWER_SIZE;
+use machine::step::replay;
 use records::layout;
 use records::layout::block_size;
 use records::layout::start_kind;
@@ -7,11 +12,6 @@ use records::layout::start_size;
 use records::layout::step_kind;
 use records::layout::step_size;
 use records::run::Run;
-use entry::code::NOTE;
-use entry::code::PREFETCH_ABORT;
-use entry::route::is_debug;
-use machine::step::ANSWER_SIZE;
-use machine::step::replay;
 use state::number::BAD_COUNT;
 use state::number::BAD_RECORD;
 use state::number::DONE;

@@ -4,10 +4,10 @@
 // needs no block of its own: the one before a Step is copied to its place in the new record, and stepped there.
 use machine::step::ANSWER_SIZE;
 use machine::step::replay;
+use records::layout;
 use rules::event::Event;
 use state::number;
 use state::place::BLOCK_SIZE;
-use records::layout;
 use words::put_word;
 ghost use mathlib.Core.Path.{_≡_};
 ghost use mathlib.Core.List.{_++_};

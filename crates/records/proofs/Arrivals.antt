@@ -25,7 +25,7 @@ use Rattle.records.proofs.Arriving.{ends}
 use Rattle.records.proofs.Knowing as knowing
 
 -- what a feeding answers is never SHORT
-known-not-short : (n : ℕ) → knownNumber n ≡ SHORT → ⊥
+pub known-not-short : (n : ℕ) → knownNumber n ≡ SHORT → ⊥
 known-not-short n = go (n is SHORT) refl
   where
     go : (t : Bool) → (n is SHORT) ≡ t → (if t then 0 else n) ≡ SHORT → ⊥

@@ -16,7 +16,7 @@ use Rattle.records.specs.declared.report.Report.{Report}
 use Rattle.records.specs.Layout.{Layout, layout, isOld, layoutOf, headSize, startSize, stepSize, endSize, mostSteps, kindAt, countAt}
 use Rattle.records.specs.Published.{AreEvents, startRecord, stepRecords, endRecord, published, Published}
 use Rattle.records.specs.Report.{report, ACCEPTED, BAD-RECORD}
-use Rattle.records.specs.Claims.{Says, Misjudged, CutAt, in-start, in-step, in-end, judgedTo, dueSize, changed, Meets, ChangedAt, InStep}
+use Rattle.records.specs.Claims.{Says, Misjudged, judgedTo, dueSize, changed, Meets, ChangedAt, InStep}
 use Rattle.records.specs.Claims.{LeavesUnread, ReadsStartAndEndOnly, WalksTheOthers}
 use Rattle.records.specs.Theorems.{OfPublished, OfChanged}
 use Rattle.records.specs.Either.{reportOf, PublishedInOne, MeetsBoth, RefusesTraces, AcceptsAll, OfBoth}
@@ -30,6 +30,16 @@ use Rattle.records.proofs.Theorems.{theorems-of}
 -- the report on a string that has this layout is this layout's
 by-layout : (old : Bool) (s : List ℕ) → isOld s ≡ old → reportOf s ≡ report (layout old) s
 by-layout old s e = ap (λ o. report (layout o) s) e
+
+-- of the front of a string it is that of the whole string's layout
+pub cut-same : (s : List ℕ) (l : ℕ) → reportOf (take l s) ≡ report (layoutOf s) (take l s)
+cut-same s l = go (below l headSize)
+  where
+    go : (l < headSize) ⊎ (headSize ≤ l) → reportOf (take l s) ≡ report (layoutOf s) (take l s)
+    go (inl f) =
+        let g : length (take l s) < headSize = omega (arith, length-take l s) in
+        few-short (layoutOf (take l s)) (take l s) g ∙ sym (few-short (layoutOf s) (take l s) g)
+    go (inr f) = by-layout (isOld s) (take l s) (cut-old s l f)
 
 -- ---- accepted exactly
 
@@ -108,17 +118,10 @@ module _ (old : Bool) (b : List ℕ) (h : length b ≡ layout old .size) where
       record {
         published-accepted = by-layout old s has ∙ of .published-accepted;
         more-refused = λ t l. by-layout old (s ++ t) (more-old s t (omega (arith, long)) ∙ has) ∙ of .more-refused t l;
-        cut-refused = λ l place k at. cut-at l place k at (below l headSize) ∙ of .cut-refused l place k at;
+        cut-refused = λ l place k at.
+            cut-same s l ∙ ap (λ (o : Bool). report (layout o) (take l s)) has ∙ of .cut-refused l place k at;
         cut-falls = of .cut-falls;
       }
-    where
-      cut-at : (l place k : ℕ) → CutAt L (length es) l place k → (l < headSize) ⊎ (headSize ≤ l)
-          → reportOf (take l (published L b es)) ≡ report L (take l (published L b es))
-      cut-at l place k at (inl f) =
-          let u = take l (published L b es) in
-          let g : length u < headSize = omega (arith, length-take l (published L b es)) in
-          few-short (layoutOf u) u g ∙ sym (few-short L u g)
-      cut-at l place k at (inr f) = by-layout old _ (cut-old (published L b es) l f ∙ published-has es)
 
   changed-has : (es : List Event) (e : Event) (fs : List Event) (x : Answer) (c : List ℕ) → isOld (changed L b es e x c fs) ≡ old
   unfolding changed

@@ -9,14 +9,14 @@ use Prim.Native.Nat.{ℕ, _+_, _<_, _≤_}
 use native.Mathlib.Omega.{arith}
 use lib.ListN.{length, take, drop, replicate, take-append-drop, length-append, length-take, length-replicate}
 use lib.Seq.{sets, sets-eq, take-at, drop-at, take-append-le, take-append-seam, drop-append-le}
-use lib.Dec.{eqb, leb}
+use lib.Dec.{eqb, leb, lit<}
 use borrow.Author.Tests.{eq-eqb, ne-eqb, eqb-false}
 use Rattle.words.specs.Word.{Bytes}
 use Rattle.state.specs.Choice.{if_then_else_, _is_}
 use Rattle.records.specs.declared.report.Report.{Report}
 use Rattle.records.specs.declared.session.Progress.{Progress}
 use Rattle.records.specs.declared.session.Session.{Session}
-use Rattle.records.specs.Layout.{Layout, layout, newLayout, isOld, layoutOf, headSize, stepSize}
+use Rattle.records.specs.Layout.{Layout, layout, newLayout, isOld, layoutOf, headSize, startSize, stepSize}
 use Rattle.records.specs.Report.{report, ACCEPTED, SHORT, TRAILING}
 use Rattle.records.specs.Either.{reportOf, PublishedInOne}
 use Rattle.records.specs.Session.{AT-START, OVER, session, isLive, isOver, noBlock, nothingHeld, opened, holding, refusing, faulty}
@@ -29,7 +29,7 @@ use Rattle.records.proofs.Heads.{few-old, more-old, cut-old, few-short}
 use Rattle.records.proofs.Feeding.{dead, dead-closed, alive, few, fed-cut, fed-dead, fed-over, fed-nothing}
 use Rattle.records.proofs.Arriving.{opened-ready, ends}
 use Rattle.records.proofs.Standing.{Form, Stands, waiting, going, past, broken, stands}
-use Rattle.records.proofs.Arrivals.{arrival-of}
+use Rattle.records.proofs.Arrivals.{arrival-of, known-not-short}
 use Rattle.records.proofs.Eithers as eithers
 
 -- ---- a session that takes no byte
@@ -61,6 +61,19 @@ idle-dead s r d = idle s r (λ old. fed-dead (layout old) (narrowed old s) d r)
 
 pub idle-empty : (s : Session) → fedSession s [] ≡ s
 idle-empty s = idle s [] (λ old. fed-nothing (layout old) (narrowed old s))
+
+-- ---- one whose trace is over: a byte more is a fault, in either layout
+
+over-faults : (s : Session) (r : List ℕ) → s .progress .closed ≡ 0 → s .progress .fault ≡ 0 → isOver (s .progress) ≡ true → 0 < length r
+    → fedSession s r ≡ session (refusing (s .progress) TRAILING) (noBlock newLayout) (nothingHeld newLayout)
+unfolding fedSession
+over-faults s r c f g l =
+    let old = comesOld (s .progress) (s .unfinished) r in
+    let p = s .progress in
+    ap (λ (t : Session). if p .fault is 0 && not (t .progress .fault is 0) then numbersOf t else widened old s t)
+    (fed-over (layout old) (narrowed old s) (alive p c f) g r l)
+    ∙ ap (λ (u : Bool). if u && true then numbersOf (faulty (layout old) (narrowed old s) TRAILING) else
+    widened old s (faulty (layout old) (narrowed old s) TRAILING)) (eq-eqb (p .fault) 0 f)
 
 -- ---- a layout's session, with zeros behind it
 
@@ -168,3 +181,149 @@ goes old s r e =
     by false b f = behind old s now
     by true true f = behind old s now
     by true false f = fault-cleared old (s ++ r) (eqb-false _ _ f)
+
+-- ---- the session to which these bytes have come
+
+empty : (r : List ℕ) → length r ≤ 0 → r ≡ []
+empty [] l = refl
+empty (x ∷ r) l = absurd (omega arith)
+
+abbrev pub arrived : List ℕ → Session
+arrived s = inLayout (isOld s) s
+
+-- the layout does not matter while no head has come
+in-either : (old : Bool) (s : List ℕ) → length s < headSize → arrived s ≡ inLayout old s
+in-either old s h = alike (isOld s) s h ∙ sym (alike old s h)
+
+-- while the Start is due, all bytes that have come are held
+held-all : (old : Bool) (s : List ℕ) → length s < startSize (layout old)
+    → take (0 + length s) (sets (nothingHeld (layout old)) 0 s ++ drop (stepSize (layout old)) (nothingHeld newLayout)) ≡ s
+held-all old s l =
+    let L = layout old in
+    let tail = drop (stepSize L) (nothingHeld newLayout) in
+    let rest = drop (length s) (nothingHeld L) in
+    let all : 0 + length s ≡ length s = omega arith in
+    (λ i. take (all i) (sets-first s (nothingHeld L) (omega (arith, length-replicate {A = ℕ} (stepSize L) 0)) i ++ tail))
+    ∙ ap (take (length s)) (append-assoc s rest tail)
+    ∙ take-append-seam s (rest ++ tail)
+
+module _ (s r : List ℕ) where
+  -- once a head has come the layout stays
+  settled : headSize ≤ length s → fedSession (arrived s) r ≡ inLayout (isOld s) (s ++ r) → fedSession (arrived s) r ≡ arrived (s ++ r)
+  settled h e = e ∙ ap (λ (o : Bool). inLayout o (s ++ r)) (sym (more-old s r h))
+
+  pub joins : fedSession (arrived s) r ≡ arrived (s ++ r)
+  joins = go (stood (isOld s) s .form)
+    where
+      at : Session
+      at = t (isOld s) s
+
+      go : Form (layout (isOld s)) (lawful (isOld s)) s at → fedSession (arrived s) r ≡ arrived (s ++ r)
+      go (waiting l e) = by-head (below (length s) headSize)
+        where
+          -- the layout is that of the Start which the bytes go on with
+          found : comesOld (arrived s .progress) (arrived s .unfinished) r ≡ isOld (s ++ r)
+          found =
+              ap (λ (u : Session). comesOld (u .progress) (u .unfinished ++ drop (stepSize (layout (isOld s))) (nothingHeld newLayout)) r) e
+              ∙ ap (λ l. isOld (l ++ r)) (held-all (isOld s) s l)
+
+          by-head : (length s < headSize) ⊎ (headSize ≤ length s) → fedSession (arrived s) r ≡ arrived (s ++ r)
+          by-head (inl h) =
+              let same = in-either (isOld (s ++ r)) s h in
+              ap (λ (u : Session). fedSession u r) same
+              ∙ goes (isOld (s ++ r)) s r (ap (λ (u : Session). comesOld (u .progress) (u .unfinished) r) (sym same) ∙ found)
+          by-head (inr h) = settled h (goes (isOld s) s r (found ∙ more-old s r h))
+      go (going h c f g) =
+          settled h (goes (isOld s) s r (ap (λ n. comesOld (staged n) (arrived s .unfinished) r) g ∙ tells (isOld s)))
+        where
+          staged : ℕ → Progress
+          staged n =
+              record {
+                stage = n;
+                count = at .progress .count;
+                steps = at .progress .steps;
+                place = at .progress .place;
+                held = at .progress .held;
+                fault = at .progress .fault;
+                closed = at .progress .closed;
+              }
+
+          tells : (old : Bool) → comesOld (staged (layout old .next)) (arrived s .unfinished) r ≡ old
+          tells true = refl
+          tells false = refl
+      go (past h c f g) = by-length (below 0 (length r))
+        where
+          over : isOver (at .progress) ≡ true
+          over = ap (leb OVER) g
+
+          by-length : (0 < length r) ⊎ (length r ≤ 0) → fedSession (arrived s) r ≡ arrived (s ++ r)
+          by-length (inl l) =
+              settled h
+              (over-faults (arrived s) r c f over l
+              ∙ sym (ap (widened (isOld s) openedSession)
+              (fed-cut (layout (isOld s)) (opened (layout (isOld s))) s r
+              ∙ fed-over (layout (isOld s)) at (alive (at .progress) c f) over r l)
+              ∙ cleared (isOld s) (faulty (layout (isOld s)) at TRAILING) refl refl))
+          by-length (inr l) =
+              let none : r ≡ [] = empty r l in
+              ap (fedSession (arrived s)) none ∙ idle-empty (arrived s) ∙ ap arrived (sym (append-nil s) ∙ ap (λ l. s ++ l) (sym none))
+      go (broken h z b u) =
+          settled h
+          (idle-dead (arrived s) r (dead (at .progress) z)
+          ∙ ap (widened (isOld s) openedSession)
+          (sym (fed-cut (layout (isOld s)) (opened (layout (isOld s))) s r ∙ fed-dead (layout (isOld s)) at (dead (at .progress) z) r)))
+
+-- ---- what is proved of a session of one layout is true of it
+
+none-come : arrived [] ≡ openedSession
+none-come =
+    ap (λ (o : Bool). inLayout o []) (few-old [] (lit< tt))
+    ∙ ap (widened true openedSession) (fed-nothing (layout true) (opened (layout true)))
+    ∙ cleared true (opened (layout true)) refl refl
+
+runs : (rs : List (List ℕ)) (s : List ℕ) → fedRuns (arrived s) rs ≡ arrived (s ++ joined rs)
+unfolding fedRuns
+runs [] s = ap arrived (sym (append-nil s))
+runs (r ∷ rs) s =
+    ap (λ (u : Session). fedRuns u rs) (joins s r) ∙ runs rs (s ++ r) ∙ ap arrived (append-assoc s r (joined rs))
+
+-- all runs, and one
+pub all-runs : (rs : List (List ℕ)) → fedRuns openedSession rs ≡ arrived (joined rs)
+all-runs rs = ap (λ (u : Session). fedRuns u rs) (sym none-come) ∙ runs rs []
+
+one-run : (s : List ℕ) → fedSession openedSession s ≡ arrived s
+one-run s = ap (λ (u : Session). fedSession u s) (sym none-come) ∙ joins [] s
+
+closes : (rs : List (List ℕ)) → closing (fedRuns openedSession rs .progress) ≡ reportOf (joined rs)
+closes rs =
+    let s = joined rs in
+    ap (λ (u : Session). closing (u .progress)) (all-runs rs) ∙ ends (layoutOf s) (lawful (isOld s)) s .closes
+
+answers : (s : List ℕ) → feedNumber (fedSession openedSession s .progress) ≡ knownNumber (reportOf s .number)
+answers s = ap (λ (u : Session). feedNumber (u .progress)) (one-run s) ∙ arrival-of (isOld s) .answers s
+
+-- of the front of a string, in the layout of the whole
+front : (s : List ℕ) (j : ℕ)
+    → feedNumber (fedSession openedSession (take j s) .progress) ≡ feedNumber (fed (layoutOf s) (opened (layoutOf s)) (take j s) .progress)
+front s j =
+    answers (take j s)
+    ∙ ap (λ (v : Report). knownNumber (v .number)) (eithers.cut-same s j)
+    ∙ sym (arrival-of (isOld s) .answers (take j s))
+
+pub arrival-of-both : ArrivalOfBoth
+arrival-of-both =
+    record {
+      however-cut = λ rs. all-runs rs ∙ sym (one-run (joined rs));
+      closes-with-the-report = closes;
+      accepts-exactly = λ rs by.
+          let exact = eithers.accepts-exactly (joined rs) by in
+          let number = ap (λ (v : Report). v .number) (closes rs) in
+          ((λ z. exact .0 (sym number ∙ z)), (λ p. number ∙ exact .1 p));
+      answers = answers;
+      known-exactly = λ s j h nz n8. front s j ∙ arrival-of (isOld s) .known-exactly s j h nz n8;
+      nothing-known = λ s j e. front s j ∙ arrival-of (isOld s) .nothing-known s j e;
+      never-short = λ s e. known-not-short (reportOf s .number) (sym (answers s) ∙ e);
+      empty-run = idle-empty;
+      fault-stays = λ s r h. idle-dead s r (dead (s .progress) h);
+      closed-stays = λ s r h. idle-dead s r (dead-closed (s .progress) h);
+    }

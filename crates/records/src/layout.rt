@@ -67,7 +67,11 @@ pub fn is_old(trace: &[u8]) -> bool
 pub fn block_size(old: bool) -> usize
     ensures { λ n. ⌜ n ≡ layout old .size ⌝ }
 {
-    if old { place::OLD_BLOCK_SIZE } else { place::BLOCK_SIZE }
+    if old {
+        place::OLD_BLOCK_SIZE
+    } else {
+        place::BLOCK_SIZE
+    }
 }
 
 pub fn start_size(old: bool) -> u32

@@ -80,10 +80,7 @@ fn check_in(old: bool, trace: &[u8]) -> Report
     let steps = word_at(trace, layout::COUNT);
     let mut block = [0u8; place::BLOCK_SIZE];
     let start = &mut block[..block_size(old)];
-    bytes::copy(
-        &trace[layout::START_BLOCK..start_size(old) as usize],
-        start,
-    );
+    bytes::copy(&trace[layout::START_BLOCK..start_size(old) as usize], start);
     judge_rest(old, trace, steps, start)
 }
 

@@ -4,9 +4,9 @@
 // of a directory or a closed input, prints CANNOT READ: it is not the end of the input.
 use libc::STDIN_FILENO;
 use libc::STDOUT_FILENO;
-use state::place::BLOCK_SIZE;
 use records::session::Progress;
 use records::session::RECORD_SIZE;
+use state::place::BLOCK_SIZE;
 
 fn print_report(p: Progress) {
     let v = session::close(p);
