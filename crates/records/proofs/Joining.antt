@@ -291,7 +291,7 @@ runs (r ∷ rs) s =
 pub all-runs : (rs : List (List ℕ)) → fedRuns openedSession rs ≡ arrived (joined rs)
 all-runs rs = ap (λ (u : Session). fedRuns u rs) (sym none-come) ∙ runs rs []
 
-one-run : (s : List ℕ) → fedSession openedSession s ≡ arrived s
+pub one-run : (s : List ℕ) → fedSession openedSession s ≡ arrived s
 one-run s = ap (λ (u : Session). fedSession u s) (sym none-come) ∙ joins [] s
 
 closes : (rs : List (List ℕ)) → closing (fedRuns openedSession rs .progress) ≡ reportOf (joined rs)

@@ -43,7 +43,6 @@ use denote.Triple.Walked.{walk-meets}
 use denote.Exit.{yes}
 use Rattle.records.specs.declared.session.Progress.{Progress}
 use Rattle.records.specs.declared.session.Session.{Session}
-use Rattle.records.specs.Layout.{layout01}
 use Rattle.records.specs.Session.{session, fed, feedNumber}
 use Rattle.records.proofs.session.Progress.Laws as progress-laws
 use Rattle.session.proofs.feed as feed
@@ -128,7 +127,7 @@ module _ {M : Type 1} (𝓤 : URA M) (H : Heap 𝓤) (A : Atoms 𝓤) (W : Given
 
   abbrev from-feed : ℕ → GName → ℕ → GName → Val → Session → Item 𝓤
   from-feed ν δ ν′ δ′ w s′ =
-      given (s′ ≡ fed layout01 s (bytes .now)) (‵ (Numbers .own (s′ .progress) (w ∷ []))
+      given (s′ ≡ fedSession s (bytes .now)) (‵ (Numbers .own (s′ .progress) (w ∷ []))
       ⊛ ‵ (flft (ν ∷ []) fullShare) ⊛ ‵ (fres δ (Block .coded .code (s′ .block)))
       ⊛ ‵ (flft (ν′ ∷ []) fullShare) ⊛ ‵ (fres δ′ (Unfinished .coded .code (s′ .unfinished))) ⊛ ‵ (flft κ′ q′))
 
@@ -138,7 +137,7 @@ module _ {M : Type 1} (𝓤 : URA M) (H : Heap 𝓤) (A : Atoms 𝓤) (W : Given
       qed W (raw (Feed 𝓤 H A at-mem run .post (to-feed ν δ ν′ δ′) w) ∷ []) ∵ updating ! $
       answered ! tt feed.ended (feed.clauses 𝓤 H A at-mem run) (to-feed ν δ ν′ δ′) w (λ p ends.
       let s′ : Session = session p (ends .1 .0) (ends .1 .1 .0) in
-      move ! (3 ∷ []) $ heard ! (s′ ≡ fed layout01 s (bytes .now)) (λ leaves.
+      move ! (3 ∷ []) $ heard ! (s′ ≡ fedSession s (bytes .now)) (λ leaves.
       use1 W (‵ (flft (ν ∷ []) fullShare) ⊛ ‵ (flft (ν′ ∷ []) fullShare) ⊛ ‵ (flft κ′ q′) ⊛ ‵ ftrue) (id⊢ 𝓤 _) $ ungroup ! $
       -- [the tokens, 0 to 2; true; the numbers; the last values]
       move ! (5 ∷ []) $

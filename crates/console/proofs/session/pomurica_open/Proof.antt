@@ -39,7 +39,6 @@ use denote.Triple.Call.{calls-at}
 use denote.Triple.Table.{entered, cited}
 use denote.Triple.Walked.{says, Stays, stay-ref, walkOf, AllGo, goes-ref, Walks, ends-at, walked, walk-meets}
 use Rattle.records.specs.declared.session.Session.{Session}
-use Rattle.records.specs.Layout.{layout01}
 use Rattle.records.specs.Session.{opened}
 use Rattle.records.proofs.session.Session as whole
 use Rattle.records.proofs.session.Session.Laws as whole-laws
@@ -117,7 +116,7 @@ module _ {M : Type 1} (𝓤 : URA M) (H : Heap 𝓤) (A : Atoms 𝓤) (W : Given
         use0 W (raw (Callee 𝓤 H A at-mem run .pre to-callee)) handed $
         calls-at ! fm (Callee 𝓤 H A at-mem run) met to-callee (no-more !) (λ w.
         answered ! tt callee.ended (callee.clauses 𝓤 H A at-mem run) to-callee w (λ s′ _.
-        move ! (3 ∷ []) $ heard ! (s′ ≡ opened layout01) (λ leaves. move ! (1 ∷ []) $
+        move ! (3 ∷ []) $ heard ! (s′ ≡ openedSession) (λ leaves. move ! (1 ∷ []) $
         facts ! Whole (Is Whole) (shows 𝓤 H A Whole) s′ (w ∷ []) (λ is.
         -- [twice nothing; _2; …; _1; …; _0; …; the session's name, borrow and token]
         land ! (into !) (init ! 2 refl (typed 𝓤 H A W s′ w is)) $
