@@ -13,7 +13,7 @@ use Rattle.entry.specs.Route.{notHere, debugTrapped, routedA}
 use Rattle.entry.proofs.Ways.{el1-no-hyp}
 
 -- neither Secure nor in Hyp
-of-guest : (cpsr scr : ℕ) → (nsUser cpsr scr || nsEl1 cpsr scr) ≡ true → (secure cpsr scr || mode-field cpsr is HYP) ≡ false
+pub of-guest : (cpsr scr : ℕ) → (nsUser cpsr scr || nsEl1 cpsr scr) ≡ true → (secure cpsr scr || mode-field cpsr is HYP) ≡ false
 of-guest cpsr scr h = by (secure cpsr scr) (m is USER) refl h
   where
     m : ℕ

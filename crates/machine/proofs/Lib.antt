@@ -4,6 +4,7 @@ pub mod Behind
 pub mod Replay
 pub mod Numbers
 pub mod Leaving
+pub mod Debugging
 pub mod Denying
 pub mod Returning
 pub mod Checking
