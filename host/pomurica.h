@@ -419,8 +419,8 @@ uint32_t pomurica_check(const uint8_t *trace, size_t trace_len,
  * the kind that has come: 4 is the new layout's, and any other counts as the old
  * one's.  A trace of the old layout uses the first 176 bytes of the block and the
  * first 200 of the unfinished record; those behind them are 0 in a session that
- * was opened, and stay as they are in any other, also where the rest is cleared,
- * until the session is over.
+ * was opened, and in any other stay as they are until a fault is known, which
+ * clears every byte of both.
  */
 enum pomurica_stage {
     POMURICA_STAGE_START = 0,    /* the Start is due */

@@ -129,11 +129,9 @@ struct pomurica_session words_due(const uint8_t *trace, size_t length)
 
 struct pomurica_session faulted(struct pomurica_session words, uint32_t number)
 {
-    const bool old = is_in_old(&words);
-
     words.fault = number;
     words.held = 0;
-    memset(words.block, 0, block_size(old));
-    memset(words.unfinished, 0, step_size(old));
+    memset(words.block, 0, sizeof words.block);
+    memset(words.unfinished, 0, sizeof words.unfinished);
     return words;
 }
