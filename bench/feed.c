@@ -61,8 +61,9 @@ static void take_start(struct pomurica_session *session)
     let_go(session, old);
 }
 
-/* The next bytes of the Start: those of its head, which tells the layout, or all others; gives how many it has done with. */
-static __attribute__((noinline)) size_t take_for_start(struct pomurica_session *session, const uint8_t *bytes, size_t left)
+/* The next bytes of the Start: those of its head, which tells the layout, or all others; gives how many it is done with. */
+static __attribute__((noinline)) size_t take_for_start(struct pomurica_session *session, const uint8_t *bytes,
+                                                       size_t left)
 {
     const size_t held = session->held;
     const size_t size = held < HEAD_SIZE ? HEAD_SIZE : IN(is_old(session->unfinished), START_SIZE);

@@ -18,7 +18,7 @@ static bool is_over(const struct pomurica_session *session)
     return session->stage >= STAGE_OVER;
 }
 
-/* No. 11: the layout of a trace that is not over: while the Start is due by the kind that has come, then by the stage. */
+/* No. 11: the layout of a trace that is not over: by the kind that has come while the Start is due, then by the stage. */
 static enum layout layout_of(const struct pomurica_session *session)
 {
     if (session->stage == STAGE_START)
@@ -36,14 +36,14 @@ static struct record record_due(const struct pomurica_session *session)
     return END;
 }
 
-/* No. 6: "one unfinished record" is kept, and this one is finished; what lies behind an old one's room is not its own. */
+/* No. 6: "one unfinished record" is kept, and this one is finished; what lies behind an old one's room stays. */
 static void let_record_go(struct pomurica_session *session, enum layout layout)
 {
     session->held = 0;
     memset(session->unfinished, 0, STEP[layout].length);
 }
 
-/* No. 6: a fault's number is given "from then on": nothing is judged any more, and nothing is kept for it, in either layout. */
+/* No. 6: a fault's number is given "from then on": nothing is judged any more, and no byte is kept, in either layout. */
 static void keep_fault(struct pomurica_session *session, enum number fault)
 {
     session->fault = fault;
@@ -66,7 +66,7 @@ static enum number take_start(struct pomurica_session *session, enum layout layo
     return DONE;
 }
 
-/* The trace: a right Step leaves its "block after" as the last block; No. 11: an old one has HDCR 0, and no room for it. */
+/* The trace: a right Step leaves its "block after" as the last block; No. 11: an old one with HDCR 0, and no room for it. */
 static enum number take_step(struct pomurica_session *session, enum layout layout)
 {
     uint8_t block[BLOCK_SIZE];

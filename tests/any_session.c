@@ -36,7 +36,7 @@ static size_t next_record(bool old, size_t at)
 
 size_t any_cut(struct chance *chance, const uint8_t *trace, size_t at, size_t length)
 {
-    const bool old = length < HEAD_SIZE || is_old(trace);
+    const bool old = is_taken_for_old(trace, length);
     size_t cut;
 
     switch (any_below(chance, 8)) {
@@ -82,6 +82,14 @@ static void spoil_record(struct chance *chance, uint8_t *record)
     record[any_below(chance, size)] ^= (uint8_t)(1u << any_below(chance, 8));
 }
 
+/* The bytes of the block behind those that a trace of the old layout uses. */
+static void spoil_behind(struct chance *chance, struct pomurica_session *session)
+{
+    const size_t used = POMURICA_OLD_BLOCK_SIZE;
+
+    any_bytes(chance, session->block + used, sizeof session->block - used);
+}
+
 static void spoil_one(struct chance *chance, struct pomurica_session *session)
 {
     switch (any_below(chance, 12)) {
@@ -95,7 +103,7 @@ static void spoil_one(struct chance *chance, struct pomurica_session *session)
     case 7: session->closed = any_small(chance, 3); break;
     case 8: spoil_record(chance, session->unfinished); break;
     case 9: session->stage = POMURICA_STAGE_OLD_NEXT + any_below(chance, 2); break; /* perhaps in the other layout */
-    case 10: any_bytes(chance, session->block + POMURICA_OLD_BLOCK_SIZE, sizeof session->block - POMURICA_OLD_BLOCK_SIZE); break;
+    case 10: spoil_behind(chance, session); break;
     default: any_block(chance, session->block); break;
     }
 }

@@ -113,7 +113,8 @@ uint32_t record_of(size_t byte)
 /* The last block is that of the Start, or of the last Step: each has it at its end. */
 struct pomurica_session words_due(const uint8_t *trace, size_t length)
 {
-    const uint32_t record = record_of(length), place = record < RECORDS ? record_begin(record) : (uint32_t)trace_length();
+    const uint32_t record = record_of(length);
+    const uint32_t place = record < RECORDS ? record_begin(record) : (uint32_t)trace_length();
     const uint32_t block_end = record < RECORDS ? place : end_place();
     struct pomurica_session due = { .place = place, .held = (uint32_t)length - place };
 

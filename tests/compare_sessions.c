@@ -173,7 +173,7 @@ static struct whole check_whole(const uint8_t *trace, size_t length)
     struct whole whole;
 
     whole.number = pomurica_check(trace, length, whole.report, sizeof whole.report);
-    whole.known = bytes_until_known(length < HEAD_SIZE || is_old(trace), whole.number,
+    whole.known = bytes_until_known(is_taken_for_old(trace, length), whole.number,
                                     pomurica_get_word(whole.report, POMURICA_REPORT_PLACE));
     return whole;
 }
@@ -196,7 +196,7 @@ static enum cut cut_of(uint32_t held)
     return held < HEAD_SIZE ? WITHIN_HEAD : held == HEAD_SIZE ? BEHIND_HEAD : WITHIN_BODY;
 }
 
-/* Where the first record begins that begins in a run.  Before its kind has come, a Start may be as large as a new one. */
+/* Where the first record begins that begins in a run.  Before its kind has come, a Start may have the new one's size. */
 static size_t first_begun(const struct pomurica_session *before)
 {
     if (before->held == 0)

@@ -242,7 +242,7 @@ static void try_fault_behind(struct chance *chance, const uint8_t *trace, uint32
     expect_fed("bytes behind, a fault", &words, changed + place + held, size - held, number, &due);
 }
 
-/* Each record, with as many of its bytes held as may be: wrong in its head, in a Start's n and in any other one's last byte. */
+/* Each record, with as many of its bytes held as may be: right; wrong in its head; in a Start's n, or in its last byte. */
 static void run_bytes_behind(struct chance *chance, const uint8_t *trace)
 {
     const size_t over_most = sizeof(uint32_t) * POMURICA_RECORD_COUNT + sizeof(uint16_t); /* n and 65,536 */
@@ -267,15 +267,15 @@ static void run_trailing_behind(struct chance *chance, const uint8_t *trace)
     memcpy(longer, trace, trace_length());
     for (size_t length = end_place(); length <= trace_length(); length++) {
         const struct pomurica_session words = with_any_behind(chance, words_due(trace, length));
-        struct pomurica_session due = words_due(trace, trace_length());
+        const struct pomurica_session due = faulted(words_due(trace, trace_length()), POMURICA_TRAILING);
+        const size_t left = trace_length() + 1 - length;
 
         expect_closed(&words, length < trace_length() ? POMURICA_SHORT : POMURICA_DONE);
-        due = faulted(due, POMURICA_TRAILING);
-        expect_fed("bytes behind, one too many", &words, longer + length, trace_length() + 1 - length, POMURICA_TRAILING, &due);
+        expect_fed("bytes behind, one too many", &words, longer + length, left, POMURICA_TRAILING, &due);
     }
 }
 
-/* A Start of which fewer bytes than its kind needs are held, where the other layout's head stands: only what has come counts. */
+/* A Start of which too few bytes are held to tell its kind, with the other layout's head there: what has come counts. */
 static void run_other_head_behind(const uint8_t *trace)
 {
     for (size_t held = 0; held < HEAD_SIZE; held++) {
