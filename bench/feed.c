@@ -61,7 +61,7 @@ static void take_start(struct pomurica_session *session)
     let_go(session, old);
 }
 
-/* The next bytes of the Start: those of its head, which tells the layout, or all others; gives how many it is done with. */
+/* The next bytes of the Start: those of its head, which tells the layout, or all others; gives how many they are. */
 static __attribute__((noinline)) size_t take_for_start(struct pomurica_session *session, const uint8_t *bytes,
                                                        size_t left)
 {

@@ -18,7 +18,7 @@ static bool is_over(const struct pomurica_session *session)
     return session->stage >= STAGE_OVER;
 }
 
-/* No. 11: the layout of a trace that is not over: by the kind that has come while the Start is due, then by the stage. */
+/* No. 11: the layout of a trace that is not over: while the Start is due by its kind, then by the stage. */
 static enum layout layout_of(const struct pomurica_session *session)
 {
     if (session->stage == STAGE_START)
@@ -43,7 +43,7 @@ static void let_record_go(struct pomurica_session *session, enum layout layout)
     memset(session->unfinished, 0, STEP[layout].length);
 }
 
-/* No. 6: a fault's number is given "from then on": nothing is judged any more, and no byte is kept, in either layout. */
+/* No. 6: a fault's number is given "from then on": nothing is judged any more, and no byte kept, in either layout. */
 static void keep_fault(struct pomurica_session *session, enum number fault)
 {
     session->fault = fault;
@@ -66,7 +66,7 @@ static enum number take_start(struct pomurica_session *session, enum layout layo
     return DONE;
 }
 
-/* The trace: a right Step leaves its "block after" as the last block; No. 11: an old one with HDCR 0, and no room for it. */
+/* The trace: a right Step leaves its "block after" as the last block; No. 11: an old one without HDCR, which is 0. */
 static enum number take_step(struct pomurica_session *session, enum layout layout)
 {
     uint8_t block[BLOCK_SIZE];

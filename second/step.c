@@ -920,7 +920,7 @@ static bool is_unknown_in(enum layout layout, const struct event *event)
     return false;
 }
 
-/* No. 11: the event by the rules of a layout: one that it does not know has no code.  No other rule asks for the layout. */
+/* No. 11: the event by the rules of a layout: one that it does not know has no code.  No other rule asks for it. */
 static struct event event_in(enum layout layout, struct event event)
 {
     static const uint32_t NO_CODE = 0;

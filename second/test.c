@@ -1971,7 +1971,7 @@ static void run_shown(const struct shown *shown, enum layout layout)
     run_one(shown->step.name, trace, layout, shown->due[layout]);
 }
 
-/* No. 11: a case as a direct step does it: right in a new trace, with that HDCR alone; no debug is taken in an old one. */
+/* No. 11: a case as a direct step does it: right in a new trace, with that HDCR alone; in an old one without debug. */
 static void run_debug_trace(const struct worked_case *worked)
 {
     const bool is_old = worked->code != CODE_NOTE && worked->a != ABORT_DEBUG;
@@ -1994,7 +1994,7 @@ static void run_debug_cases(void)
     }
 }
 
-/* No. 11: a trace of two refused Steps from a block without a known mode, Start and Steps each in a layout of its own. */
+/* No. 11: a trace of two refused Steps from a block without a known mode, each record in a layout of its own. */
 static size_t record_mixed(uint8_t *trace, enum layout start, enum layout first, enum layout second)
 {
     const struct pomurica_answer answer = { BAD_MODE, 0 };
@@ -2128,7 +2128,7 @@ static void run_debugging_batch(void)
          get_word(block + 4 * HDCR) == HDCR_TDE);
 }
 
-/* No. 11, No. 7: whether the list as recorded has the new layout's records, these answers, and HDCR from the note on. */
+/* No. 11, No. 7: whether the list as recorded has new records, these answers, and HDCR from the note on. */
 static bool shows_debugging(const uint8_t *trace)
 {
     bool right = get_word(trace) == (188 | 4 << 16) && get_word(trace + 188 - 4) == 0;

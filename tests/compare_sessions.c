@@ -196,7 +196,7 @@ static enum cut cut_of(uint32_t held)
     return held < HEAD_SIZE ? WITHIN_HEAD : held == HEAD_SIZE ? BEHIND_HEAD : WITHIN_BODY;
 }
 
-/* Where the first record begins that begins in a run.  Before its kind has come, a Start may have the new one's size. */
+/* Where the first record begins that begins in a run.  Before its kind has come, a Start may be as large as any. */
 static size_t first_begun(const struct pomurica_session *before)
 {
     if (before->held == 0)

@@ -245,7 +245,8 @@ static void show_answers(enum layout layout, unsigned long seldom)
             continue;
         }
         printf("  a Step with %-24s %10lu\n", name, times);
-        check(times >= seldom, "%s, a Step with %s: accepted %lu times", layout_name(layout == OLD_LAYOUT), name, times);
+        check(times >= seldom, "%s, a Step with %s: accepted %lu times", layout_name(layout == OLD_LAYOUT), name,
+              times);
     }
 }
 

@@ -1,4 +1,4 @@
-"""docs/FORMAT.md's drawn trace, put together in both layouts and judged; its numbers and the README's against the header's.
+"""docs/FORMAT.md's drawn trace, put together in both layouts and judged; its numbers, and README's, by the header's.
 
     format.py CONSOLE...
 
@@ -116,7 +116,8 @@ def check_records(numbers):
     for record, layout, size, kind, head in rows:
         prefix, name = "OLD_" if layout == "old" else "", record.upper()
         due = numbers[f"{prefix}{name}_SIZE"], numbers[f"{prefix}KIND_{name}"]
-        check((int(size), int(kind)) == due and bytes_of(head) == b"".join(number.to_bytes(2, "little") for number in due),
+        halves = b"".join(number.to_bytes(2, "little") for number in due)
+        check((int(size), int(kind)) == due and bytes_of(head) == halves,
               f"length, kind and head of the {record}, {layout}")
     check(len(rows) == 5, "a Start and a Step of each layout, and an End")
 

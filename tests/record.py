@@ -94,7 +94,7 @@ def help_lists():
 
 
 def flags_of(form):
-    """The words of an event of which each may stand, `[FIQ] [IRQ]`, and of which one may, `[less-2|less-4]`, `| debug`."""
+    """The words of an event of which each may stand, `[FIQ] [IRQ]`, and of which one, `[less-2|less-4]`, `| debug`."""
     groups = [operand.strip('[]').split('|') for operand in form if operand.startswith('[')]
     alone = [word for before, word in zip(form, form[1:]) if before == '|']
     return ([words[0] for words in groups if len(words) == 1],

@@ -74,7 +74,7 @@ def long_trace(count, wrong=None, form=NEW):
         sample = file.read()
     start, round_trip = sample[START_BLOCK:form.start_size], sample[form.start_size:-END_SIZE]
     block = round_trip[-form.block_size:]
-    for place in sorted(range(form.places), key=lambda place: place != CPSR):  # CPSR first: User may have any other word
+    for place in sorted(range(form.places), key=lambda place: place != CPSR):  # it first: User may have any other word
         step, block = note(block, place, start[4 * place:4 * place + 4], form)
         round_trip += step
     steps = bytearray((round_trip * (form.step_size * count // len(round_trip) + 1))[:form.step_size * count])

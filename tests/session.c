@@ -174,7 +174,7 @@ static uint32_t head_of(bool old, uint32_t record)
     return old ? POMURICA_OLD_STEP_HEAD : POMURICA_STEP_HEAD;
 }
 
-/* A Step of the other layout, and length and kind that do not go together; a Start of the other one fails behind its end. */
+/* A Step of the other layout, and length and kind that do not go together; behind another Start its own Step is due. */
 static void run_mixed(const uint8_t *trace)
 {
     const bool old = is_arriving_in_old();

@@ -242,7 +242,7 @@ static void try_fault_behind(struct chance *chance, const uint8_t *trace, uint32
     expect_fed("bytes behind, a fault", &words, changed + place + held, size - held, number, &due);
 }
 
-/* Each record, with as many of its bytes held as may be: right; wrong in its head; in a Start's n, or in its last byte. */
+/* Each record, with any number of its bytes held: right; wrong in its head; in a Start's n, or in the last byte. */
 static void run_bytes_behind(struct chance *chance, const uint8_t *trace)
 {
     const size_t over_most = sizeof(uint32_t) * POMURICA_RECORD_COUNT + sizeof(uint16_t); /* n and 65,536 */
@@ -275,7 +275,7 @@ static void run_trailing_behind(struct chance *chance, const uint8_t *trace)
     }
 }
 
-/* A Start of which too few bytes are held to tell its kind, with the other layout's head there: what has come counts. */
+/* A Start of which too few bytes have come to tell its kind, where the other layout's head stands: it plays no part. */
 static void run_other_head_behind(const uint8_t *trace)
 {
     for (size_t held = 0; held < HEAD_SIZE; held++) {
