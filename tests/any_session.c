@@ -7,7 +7,8 @@
 
 enum {
     MOST_STEPS = 65535,
-    FEW = 10 /* bytes: a head, and a whole End, end within so many */
+    FEW = 10,      /* bytes: a head, and a whole End, end within so many */
+    KIND_PLACE = 2 /* the byte of a record that has its kind, which is a small number */
 };
 
 /* A number beside this one, or itself. */
@@ -90,9 +91,17 @@ static void spoil_behind(struct chance *chance, struct pomurica_session *session
     any_bytes(chance, session->block + used, sizeof session->block - used);
 }
 
+/* It waits for the last bytes of a Start, of either layout or of none. */
+static void spoil_start(struct chance *chance, struct pomurica_session *session)
+{
+    session->stage = POMURICA_STAGE_START;
+    session->held = OLD_START_SIZE - 1 + any_below(chance, START_SIZE - OLD_START_SIZE + 2);
+    session->unfinished[KIND_PLACE] = (uint8_t)any_below(chance, 2 * POMURICA_KIND_START);
+}
+
 static void spoil_one(struct chance *chance, struct pomurica_session *session)
 {
-    switch (any_below(chance, 12)) {
+    switch (any_below(chance, 13)) {
     case 0: session->stage = any_small(chance, POMURICA_STAGE_OVER + 2); break;
     case 1: session->count = about(chance, session->steps); break;
     case 2: session->steps = about(chance, session->count); break;
@@ -104,6 +113,7 @@ static void spoil_one(struct chance *chance, struct pomurica_session *session)
     case 8: spoil_record(chance, session->unfinished); break;
     case 9: session->stage = POMURICA_STAGE_OLD_NEXT + any_below(chance, 2); break; /* perhaps in the other layout */
     case 10: spoil_behind(chance, session); break;
+    case 11: spoil_start(chance, session); break;
     default: any_block(chance, session->block); break;
     }
 }
