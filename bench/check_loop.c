@@ -164,9 +164,9 @@ static void run(void)
 
 int main(int argc, char **argv)
 {
-    if (argc == 3 && strncmp(argv[1], "prepare", strlen("prepare")) == 0) {
-        const bool old = strcmp(argv[1], "prepare-old") == 0;
+    const bool old = argc == 3 && strcmp(argv[1], "prepare-old") == 0;
 
+    if (old || (argc == 3 && strcmp(argv[1], "prepare") == 0)) {
         record(old);
         return write_file(argv[2], trace, old ? OLD_TRACE_SIZE : TRACE_SIZE) ? 0 : 2;
     }
