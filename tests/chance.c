@@ -63,6 +63,16 @@ bool one_in(struct chance *chance, uint32_t times)
     return any_below(chance, times) == 0;
 }
 
+void choose_layout(struct chance *chance)
+{
+    chance->old = chance->strays = one_in(chance, 2);
+}
+
+void leave_layout(struct chance *chance)
+{
+    chance->old = chance->strays = false;
+}
+
 /* A word of one bit. */
 static uint32_t any_bit(struct chance *chance)
 {

@@ -35,6 +35,10 @@ extern const struct saving SAVINGS[SAVING_COUNT];
 /* The largest A of each of the thirteen codes, in the new layout; 0 where the event has none. */
 extern const uint32_t LARGEST_A[];
 
+/* From here on either layout by chance, with strays; and the new one again. */
+void choose_layout(struct chance *chance);
+void leave_layout(struct chance *chance);
+
 uint32_t any_word(struct chance *chance);
 uint32_t any_below(struct chance *chance, uint32_t limit);
 bool one_in(struct chance *chance, uint32_t times);
