@@ -74,8 +74,8 @@ static void move_on(struct chance *chance, struct step_case *step)
 }
 
 /*
- * Whether an event of the code is found that ends as wanted; its answer is then in the record, and the block after it in
- * `after`.  What the layout does not know is not among the events of chance.
+ * Whether an event of the code is found that ends as wanted; its answer is then in the record, and the block after it
+ * in `after`.  What the layout does not know is not among the events of chance.
  */
 static bool find_event(struct chance *chance, uint32_t code, bool wanted, struct step_case *step,
                        uint8_t *record, uint8_t *after)
@@ -164,9 +164,9 @@ static void run(void)
 
 int main(int argc, char **argv)
 {
-    if (argc == 3 && strncmp(argv[1], "prepare", strlen("prepare")) == 0) {
-        const bool old = strcmp(argv[1], "prepare-old") == 0;
+    const bool old = argc == 3 && strcmp(argv[1], "prepare-old") == 0;
 
+    if (old || (argc == 3 && strcmp(argv[1], "prepare") == 0)) {
         record(old);
         return write_file(argv[2], trace, old ? OLD_TRACE_SIZE : TRACE_SIZE) ? 0 : 2;
     }

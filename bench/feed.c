@@ -6,14 +6,6 @@
  */
 #include "check.c"
 
-/* The layout of the trace.  Of one that is over there is none, and all bytes are cleared. */
-ALWAYS_INLINE bool is_old_session(const struct pomurica_session *session)
-{
-    if (session->stage == POMURICA_STAGE_START)
-        return is_old(session->unfinished);
-    return session->stage == POMURICA_STAGE_OLD_NEXT;
-}
-
 /* A record that is due behind the Start. */
 struct due {
     uint32_t head;
@@ -29,7 +21,7 @@ ALWAYS_INLINE struct due due_of(const struct pomurica_session *session)
     return (struct due){ POMURICA_END_HEAD, POMURICA_END_SIZE };
 }
 
-/* Nothing is held any more; an old trace uses less room. */
+/* Nothing is held any more; an old record has less room, and what lies behind it stays. */
 ALWAYS_INLINE void let_go(struct pomurica_session *session, bool old)
 {
     session->held = 0;
@@ -39,14 +31,12 @@ ALWAYS_INLINE void let_go(struct pomurica_session *session, bool old)
         memset(session->unfinished, 0, POMURICA_STEP_SIZE);
 }
 
-/* Apart, so that a right record pays nothing for it. */
+/* A fault leaves nothing of block and record, in either layout.  Apart, so that a right record pays nothing for it. */
 static __attribute__((noinline, cold)) void fail(struct pomurica_session *session, uint32_t number)
 {
-    const bool old = is_old_session(session);
-
     session->fault = number;
-    memset(session->block, 0, IN(old, BLOCK_SIZE));
-    let_go(session, old);
+    memset(session->block, 0, sizeof session->block);
+    let_go(session, false);
 }
 
 /* A Start that is held whole. */
@@ -71,8 +61,9 @@ static void take_start(struct pomurica_session *session)
     let_go(session, old);
 }
 
-/* The next bytes of the Start: those of its head, which tells the layout, or all others; gives how many it has done with. */
-static __attribute__((noinline)) size_t take_for_start(struct pomurica_session *session, const uint8_t *bytes, size_t left)
+/* The next bytes of the Start: those of its head, which tells the layout, or all others; gives how many they are. */
+static __attribute__((noinline)) size_t take_for_start(struct pomurica_session *session, const uint8_t *bytes,
+                                                       size_t left)
 {
     const size_t held = session->held;
     const size_t size = held < HEAD_SIZE ? HEAD_SIZE : IN(is_old(session->unfinished), START_SIZE);

@@ -34,7 +34,7 @@ static inline bool is_same(const uint8_t *recorded, const uint8_t *outcome, size
     return memcmp(recorded, outcome, size) == 0;
 }
 #else
-/* The outcome lies at a multiple of sixteen; the record may lie anywhere.  The size is known where this is compiled in. */
+/* The outcome lies at a multiple of sixteen, the record anywhere.  The size is known where this is compiled in. */
 static inline __attribute__((always_inline)) bool is_same(const uint8_t *recorded, const uint8_t *outcome, size_t size)
 {
     const uint8_t *aligned = __builtin_assume_aligned(outcome, LANES);

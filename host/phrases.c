@@ -258,7 +258,7 @@ static void tell_wrong_a(FILE *out, const uint8_t *step)
         fprintf(out, ", A %" PRIu32 ", which must be 0%s", a, mode == POMURICA_MODE_HYP ? " from Hyp" : ", 2, 4 or 8");
 }
 
-/* What an abort is by A, before its name; that it is of stage 2 stands behind it.  Nothing before the name of another event. */
+/* What an abort is by A, before its name; that it is of stage 2 stands behind it.  Nothing of any other event. */
 static const char *kind_of_abort(uint32_t code, uint32_t a)
 {
     if (code != POMURICA_EVENT_PREFETCH_ABORT && code != POMURICA_EVENT_DATA_ABORT)

@@ -90,13 +90,13 @@ enum pomurica_kind {
 enum pomurica_record_word {
     POMURICA_RECORD_HEAD = 0,
     POMURICA_RECORD_COUNT = 1, /* of a Start and of an End: n, at most 65,535 */
-    POMURICA_START_BLOCK = 2,  /* the block before the first Step, 45 words, 44 in the old layout; it need not be good */
+    POMURICA_START_BLOCK = 2,  /* the block before the first Step, 45 words, old 44; it need not be good */
     POMURICA_STEP_CODE = 1,    /* the event */
     POMURICA_STEP_A = 2,
     POMURICA_STEP_B = 3,
     POMURICA_STEP_NUMBER = 4,  /* its answer */
     POMURICA_STEP_VALUE = 5,
-    POMURICA_STEP_BLOCK = 6    /* the block after it, 45 words, 44 in the old layout */
+    POMURICA_STEP_BLOCK = 6    /* the block after it, 45 words, old 44 */
 };
 
 /* The most Steps that a trace may have. */
@@ -108,7 +108,7 @@ enum pomurica_record_word {
 #define POMURICA_OLD_LONGEST_TRACE \
     (POMURICA_OLD_START_SIZE + POMURICA_MOST_STEPS * POMURICA_OLD_STEP_SIZE + POMURICA_END_SIZE)
 
-/* The bytes of a trace of n Steps, n being at most POMURICA_MOST_STEPS: 196 + 204 * n, in the old layout 192 + 200 * n. */
+/* The bytes of a trace of n Steps, n at most POMURICA_MOST_STEPS: 196 + 204 * n, in the old layout 192 + 200 * n. */
 #define POMURICA_TRACE_SIZE(n) \
     (POMURICA_START_SIZE + (size_t)(n) * POMURICA_STEP_SIZE + POMURICA_END_SIZE)
 #define POMURICA_OLD_TRACE_SIZE(n) \
@@ -419,8 +419,8 @@ uint32_t pomurica_check(const uint8_t *trace, size_t trace_len,
  * the kind that has come: 4 is the new layout's, and any other counts as the old
  * one's.  A trace of the old layout uses the first 176 bytes of the block and the
  * first 200 of the unfinished record; those behind them are 0 in a session that
- * was opened, and stay as they are in any other, also where the rest is cleared,
- * until the session is over.
+ * was opened, and in any other stay as they are until a fault is known, which
+ * clears every byte of both.
  */
 enum pomurica_stage {
     POMURICA_STAGE_START = 0,    /* the Start is due */

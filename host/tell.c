@@ -118,7 +118,8 @@ static void tell_found(FILE *out, const uint8_t *trace, uint32_t place)
 
     fprintf(out, "length %" PRIu32 " and kind %" PRIu32 " are there", size_in(head), kind_in(head));
     if (place > 0 && is_of_step(head) && old != layout_of(trace)->old)
-        fprintf(out, ", a Step of the %s layout behind a Start of the %s one", old ? "old" : "new", old ? "new" : "old");
+        fputs(old ? ", a Step of the old layout behind a Start of the new one"
+                  : ", a Step of the new layout behind a Start of the old one", out);
     fputc('\n', out);
 }
 

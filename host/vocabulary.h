@@ -19,7 +19,7 @@ struct words {
     uint32_t alone; /* the number of the flag that no other stands beside; 0 for none */
 };
 
-extern const struct words EVENTS;          /* by code; 0, which is no event's, has the word for an event in plain numbers */
+extern const struct words EVENTS;          /* by code; 0, no event's, has the word for an event in plain numbers */
 extern const struct words PLACES;          /* by place of the block */
 extern const struct words REGISTERS;       /* by A of a banked access */
 extern const struct words PREFETCH_ABORTS; /* enum pomurica_abort */

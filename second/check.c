@@ -22,7 +22,7 @@ bool second_is_due(const uint8_t *header, struct record due)
     return get_half(header) == due.length && get_half(header + 2) == due.kind;
 }
 
-/* No. 11: "Traces with the new block use Start kind 4"; any other kind that opens a trace is kind 1, or none that is due. */
+/* No. 11: "Traces with the new block use Start kind 4"; any other kind there is kind 1, or none that is due. */
 enum layout second_layout_of(const uint8_t *header)
 {
     return get_half(header + 2) == START[NEW_LAYOUT].kind ? NEW_LAYOUT : OLD_LAYOUT;

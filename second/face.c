@@ -57,7 +57,7 @@ enum {
     CODE = 1, A = 2, B = 3, FIRST_PART = 4
 };
 
-/* The first part of a wrong Step that differs, into words 3 to 5 of the explanation; the block before ends where it begins. */
+/* The first part of a wrong Step that differs, into words 3 to 5 of the explanation; the block before it ends there. */
 static void explain_step(enum layout layout, const uint8_t *step, uint8_t *explanation)
 {
     uint8_t due[POMURICA_ANSWER_SIZE + POMURICA_BLOCK_SIZE];

@@ -27,7 +27,7 @@ static void write_start(uint8_t *start, uint32_t n, const uint8_t *block)
     memcpy(start + START_BLOCK, block, BLOCK_SIZE);
 }
 
-/* The trace: "code, A, B, answer, value, block after", of a refused event too; No. 11: "Step kind 5 (204)"; moves the block. */
+/* The trace: "code, A, B, answer, value, block after", refused or not; No. 11: "Step kind 5 (204)"; moves the block. */
 static void write_step(uint8_t *step, const struct pomurica_event *event, uint8_t *block)
 {
     write_header(step, STEP[NEW_LAYOUT]);

@@ -39,7 +39,7 @@ static const uint32_t BLOCK_LENGTH[LAYOUTS] = {
 /* The trace: whether the length and the kind that a record opens with are those of the one due. */
 bool second_is_due(const uint8_t *header, struct record due);
 
-/* No. 11: the layout of a trace, by the header that it opens with; whether that is a Start's is asked by second_is_due. */
+/* No. 11: the layout of a trace, by the header that it opens with; second_is_due asks whether that is a Start's. */
 enum layout second_layout_of(const uint8_t *header);
 
 /* No. 11: the block of a record into the 180 bytes that a step takes, "with HDCR 0" in the old layout. */

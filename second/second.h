@@ -35,7 +35,7 @@ uint32_t second_open(struct pomurica_session *session);
 uint32_t second_feed(struct pomurica_session *session, const uint8_t *bytes, size_t bytes_len);
 uint32_t second_close(struct pomurica_session *session, uint8_t *report, size_t report_len);
 
-/* No. 7: the trace, a new one, of a list of events from a block, which is only read, into a buffer from the offset on. */
+/* No. 7: the trace, a new one, of a list of events from a block, only read, into a buffer from the offset on. */
 uint32_t second_record(const uint8_t *block, size_t block_len,
                        const struct pomurica_event *events, size_t events_len,
                        uint8_t *buffer, size_t buffer_len, size_t offset);

@@ -18,15 +18,12 @@ static bool is_over(const struct pomurica_session *session)
     return session->stage >= STAGE_OVER;
 }
 
-/*
- * No. 11: the layout of the trace: while the Start is due by the kind that has come, then by the stage.  One that is over is of
- * neither any more, and counts as new: nothing asks but who clears the bytes, and those of the new layout are all.
- */
+/* No. 11: the layout of a trace that is not over: while the Start is due by its kind, then by the stage. */
 static enum layout layout_of(const struct pomurica_session *session)
 {
     if (session->stage == STAGE_START)
         return second_layout_of(session->unfinished);
-    return session->stage == STAGE_OLD_NEXT ? OLD_LAYOUT : NEW_LAYOUT;
+    return session->stage == STAGE_NEXT ? NEW_LAYOUT : OLD_LAYOUT;
 }
 
 /* The trace: "One Start, n Steps, one End"; the one due, unless it is over. */
@@ -39,21 +36,20 @@ static struct record record_due(const struct pomurica_session *session)
     return END;
 }
 
-/* No. 6: "one unfinished record" is kept, and this one is finished, or will never be; the old layout has less room for it. */
+/* No. 6: "one unfinished record" is kept, and this one is finished; what lies behind an old one's room stays. */
 static void let_record_go(struct pomurica_session *session, enum layout layout)
 {
     session->held = 0;
     memset(session->unfinished, 0, STEP[layout].length);
 }
 
-/* No. 6: a fault's number is given "from then on": nothing is judged any more, and no block is needed for it. */
+/* No. 6: a fault's number is given "from then on": nothing is judged any more, and no byte kept, in either layout. */
 static void keep_fault(struct pomurica_session *session, enum number fault)
 {
-    const enum layout layout = layout_of(session);
-
     session->fault = fault;
-    memset(session->block, 0, BLOCK_LENGTH[layout]);
-    let_record_go(session, layout);
+    session->held = 0;
+    memset(session->block, 0, sizeof session->block);
+    memset(session->unfinished, 0, sizeof session->unfinished);
 }
 
 /* The trace: a Start is BAD_COUNT by its n alone, since it "may hold a block that is not good". */
@@ -70,7 +66,7 @@ static enum number take_start(struct pomurica_session *session, enum layout layo
     return DONE;
 }
 
-/* The trace: a right Step leaves its "block after" as the last block; No. 11: an old one has HDCR 0, and no room for it. */
+/* The trace: a right Step leaves its "block after" as the last block; No. 11: an old one without HDCR, which is 0. */
 static enum number take_step(struct pomurica_session *session, enum layout layout)
 {
     uint8_t block[BLOCK_SIZE];

@@ -331,7 +331,7 @@ static bool goes_to_monitor(const struct block *block, const struct event *event
     return is_external(event) && is_one(block, SCR, SCR_EA);
 }
 
-/* No. 11: "A debug abort from Non-secure User or NS EL1 goes to Hyp, at 0x14, if HDCR.TDE (bit 8) is 1; else as before". */
+/* No. 11: "A debug abort from Non-secure User or NS EL1 goes to Hyp, .. if HDCR.TDE (bit 8) is 1; else as before". */
 static bool is_debug_to_hyp(const struct block *block, const struct event *event)
 {
     if (is_secure(block) || mode_of(block) == MODE_HYP)
@@ -920,12 +920,14 @@ static bool is_unknown_in(enum layout layout, const struct event *event)
     return false;
 }
 
-/* No. 11: the event by the rules of a layout: one that it does not know is of no code.  No other rule asks for the layout. */
+/* No. 11: the event by the rules of a layout: one that it does not know has no code.  No other rule asks for it. */
 static struct event event_in(enum layout layout, struct event event)
 {
-    static const struct event NO_EVENT = { 0, 0, 0 };
+    static const uint32_t NO_CODE = 0;
 
-    return is_unknown_in(layout, &event) ? NO_EVENT : event;
+    if (is_unknown_in(layout, &event))
+        event.code = NO_CODE;
+    return event;
 }
 
 /* ------------------------------------------------------------- The step */

@@ -719,12 +719,13 @@ static void run_kept(enum layout layout, const char *name, size_t fed, const str
     tell(memcmp(&session, kept, sizeof session) == 0);
 }
 
-/* No. 6: "no more than the last block and one unfinished record", and neither with a fault; No. 11: the old one without HDCR. */
+/* No. 6: "no more than the last block and one unfinished record", and neither with a fault; No. 11: of its layout. */
 static void run_keeping(enum layout layout)
 {
     const uint32_t next = layout == OLD_LAYOUT ? STAGE_OLD_NEXT : STAGE_NEXT;
     const uint32_t last = place_of(layout, COUNTED_STEPS - 1), end = place_of(layout, COUNTED_STEPS);
-    const uint32_t start = LAYOUT[layout].start, length = length_of(layout, COUNTED_STEPS), block = LAYOUT[layout].block;
+    const uint32_t start = LAYOUT[layout].start, block = LAYOUT[layout].block;
+    const uint32_t length = length_of(layout, COUNTED_STEPS);
     struct pomurica_session kept = { .stage = STAGE_START, .held = start - 1 };
     uint8_t trace[COUNTED_LENGTH];
 
@@ -1909,7 +1910,7 @@ static void run_block_size(size_t block_len)
     tell(number == BAD_SIZE && memcmp(block, before, sizeof block) == 0 && are_old(answer, sizeof answer));
 }
 
-/* No. 11: what a Step may show, with a block that stays, by layout: "there debug and notes on place 44 are BAD_EVENT". */
+/* No. 11: what a Step may show, with a block that stays: in an old one "debug and notes on place 44 are BAD_EVENT". */
 static const struct shown {
     struct worked_case step;
     uint32_t due[LAYOUTS];
@@ -1944,6 +1945,9 @@ static const struct shown {
     { { .name = "A 5, 4", .start = { [SCR] = SCR_NS, [CPSR] = 0x13 },
         .code = CODE_PREFETCH_ABORT, .a = 5, .number = BAD_EVENT },
       { [OLD_LAYOUT] = DONE, [NEW_LAYOUT] = DONE } },
+    { { .name = "return 44, 3", .start = { [SCR] = SCR_NS, [CPSR] = 0x13, [SPSR_svc] = 1 << 21 | 0x10 }, /* nor here */
+        .code = CODE_RETURN, .a = 44, .number = BAD_STATE },
+      { [OLD_LAYOUT] = DONE, [NEW_LAYOUT] = DONE } },
     { { .name = "code 6, 4", .start = { [SCR] = SCR_NS, [CPSR] = 0x13 },
         .code = CODE_DATA_ABORT, .a = 4, .number = BAD_EVENT },
       { [OLD_LAYOUT] = DONE, [NEW_LAYOUT] = DONE } },
@@ -1967,7 +1971,7 @@ static void run_shown(const struct shown *shown, enum layout layout)
     run_one(shown->step.name, trace, layout, shown->due[layout]);
 }
 
-/* No. 11: a case as a direct step does it: right in a new trace, with that HDCR alone; in an old one debug is not taken. */
+/* No. 11: a case as a direct step does it: right in a new trace, with that HDCR alone; in an old one without debug. */
 static void run_debug_trace(const struct worked_case *worked)
 {
     const bool is_old = worked->code != CODE_NOTE && worked->a != ABORT_DEBUG;
@@ -1990,7 +1994,7 @@ static void run_debug_cases(void)
     }
 }
 
-/* No. 11: a trace of two refused Steps from a block without a known mode, the Start and each Step in a layout of its own. */
+/* No. 11: a trace of two refused Steps from a block without a known mode, each record in a layout of its own. */
 static size_t record_mixed(uint8_t *trace, enum layout start, enum layout first, enum layout second)
 {
     const struct pomurica_answer answer = { BAD_MODE, 0 };
@@ -2011,7 +2015,7 @@ enum {
     TWO_LENGTH = START_LENGTH + 2 * STEP_LENGTH + END_LENGTH
 };
 
-/* No. 11: "A trace that mixes the two is BAD_RECORD", at the record that is not due; No. 6: known with its fourth byte. */
+/* No. 11: "A trace that mixes the two is BAD_RECORD", at the record not due; No. 6: known with its fourth byte. */
 static void run_mixed(enum layout layout, enum layout other)
 {
     const uint32_t first = place_of(layout, 0), second = place_of(layout, 1), whole = length_of(layout, 2);
@@ -2035,17 +2039,18 @@ static void run_mixed(enum layout layout, enum layout other)
 /* No. 11: whether the trace is BAD_RECORD at this place, and a session knows it with the fourth byte there. */
 static bool is_bad_record(const uint8_t *trace, size_t length, uint32_t place)
 {
+    const uint32_t before = place + HEADER_SIZE - 1;
     struct pomurica_session session;
     uint8_t report[REPORT_SIZE];
     bool known;
 
     second_open(&session);
-    known = second_feed(&session, trace, place + 3) == DONE && second_feed(&session, trace + place + 3, 1) == BAD_RECORD;
+    known = second_feed(&session, trace, before) == DONE && second_feed(&session, trace + before, 1) == BAD_RECORD;
     second_check(trace, length, report, sizeof report);
     return known && get_word(report) == BAD_RECORD && get_word(report + 4) == place;
 }
 
-/* No. 11: "length or kind not the one due" is BAD_RECORD: each length with each kind, and two beside, but for those due. */
+/* No. 11: "length or kind not the one due" is BAD_RECORD: each length with each kind, and two beside, but those due. */
 static void run_headers(const char *name, enum layout layout, uint32_t place, const uint32_t due[2])
 {
     static const uint32_t LENGTHS[] = { 184, 188, 200, 204, 8 };
@@ -2069,7 +2074,8 @@ static void run_headers(const char *name, enum layout layout, uint32_t place, co
 static void run_all_headers(void)
 {
     static const uint32_t STARTS[2] = { 184 | 1 << 16, 188 | 4 << 16 };
-    static const uint32_t OLD_STEP[2] = { 200 | 2 << 16, 200 | 2 << 16 }, NEW_STEP[2] = { 204 | 5 << 16, 204 | 5 << 16 };
+    static const uint32_t OLD_STEP[2] = { 200 | 2 << 16, 200 | 2 << 16 };
+    static const uint32_t NEW_STEP[2] = { 204 | 5 << 16, 204 | 5 << 16 };
     static const uint32_t ENDS[2] = { 8 | 3 << 16, 8 | 3 << 16 };
 
     run_headers("old Start", OLD_LAYOUT, 0, STARTS);
@@ -2122,7 +2128,7 @@ static void run_debugging_batch(void)
          get_word(block + 4 * HDCR) == HDCR_TDE);
 }
 
-/* No. 11, No. 7: whether the list as recorded has the records of the new layout, these answers, and HDCR from the note on. */
+/* No. 11, No. 7: whether the list as recorded has new records, these answers, and HDCR from the note on. */
 static bool shows_debugging(const uint8_t *trace)
 {
     bool right = get_word(trace) == (188 | 4 << 16) && get_word(trace + 188 - 4) == 0;
@@ -2156,13 +2162,14 @@ static void run_debugging_trace(void)
 /* No. 11: the same list in an old trace: each of its events is BAD_EVENT there. */
 static void run_old_debugging(void)
 {
+    const struct pomurica_answer refused = { BAD_EVENT, 0 };
     const uint32_t length = length_of(OLD_LAYOUT, DEBUGGING_STEPS);
     uint8_t block[BLOCK_SIZE], trace[DEBUGGING_LENGTH], counts[COUNTS_SIZE] = { 0 };
 
     put_first_block(block, MODE_SUPERVISOR);
     put_start(trace, OLD_LAYOUT, DEBUGGING_STEPS, block);
     for (uint32_t i = 0; i < DEBUGGING_STEPS; i++)
-        put_step(trace + place_of(OLD_LAYOUT, i), OLD_LAYOUT, DEBUGGING[i], (struct pomurica_answer){ BAD_EVENT, 0 }, block);
+        put_step(trace + place_of(OLD_LAYOUT, i), OLD_LAYOUT, DEBUGGING[i], refused, block);
     put_end(trace + place_of(OLD_LAYOUT, DEBUGGING_STEPS), DEBUGGING_STEPS);
     run_trace("old trace", trace, length, DONE, length, DEBUGGING_STEPS);
     run_known("old session", trace, length, length, DONE, length, DEBUGGING_STEPS);
@@ -2172,7 +2179,9 @@ static void run_old_debugging(void)
 
 static void run_layouts(void)
 {
-    static const size_t SIZES[] = { 0, OLD_BLOCK_SIZE - 1, OLD_BLOCK_SIZE, OLD_BLOCK_SIZE + 1, BLOCK_SIZE - 1, BLOCK_SIZE + 1 };
+    static const size_t SIZES[] = {
+        0, OLD_BLOCK_SIZE - 1, OLD_BLOCK_SIZE, OLD_BLOCK_SIZE + 1, BLOCK_SIZE - 1, BLOCK_SIZE + 1
+    };
 
     run_debug_cases();
     for (size_t i = 0; i < sizeof DEBUGGED / sizeof DEBUGGED[0]; i++)

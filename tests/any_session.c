@@ -7,7 +7,8 @@
 
 enum {
     MOST_STEPS = 65535,
-    FEW = 10 /* bytes: a head, and a whole End, end within so many */
+    FEW = 10,      /* bytes: a head, and a whole End, end within so many */
+    KIND_PLACE = 2 /* the byte of a record that has its kind, which is a small number */
 };
 
 /* A number beside this one, or itself. */
@@ -36,7 +37,7 @@ static size_t next_record(bool old, size_t at)
 
 size_t any_cut(struct chance *chance, const uint8_t *trace, size_t at, size_t length)
 {
-    const bool old = length < HEAD_SIZE || is_old(trace);
+    const bool old = is_taken_for_old(trace, length);
     size_t cut;
 
     switch (any_below(chance, 8)) {
@@ -82,9 +83,25 @@ static void spoil_record(struct chance *chance, uint8_t *record)
     record[any_below(chance, size)] ^= (uint8_t)(1u << any_below(chance, 8));
 }
 
+/* The bytes of the block behind those that a trace of the old layout uses. */
+static void spoil_behind(struct chance *chance, struct pomurica_session *session)
+{
+    const size_t used = POMURICA_OLD_BLOCK_SIZE;
+
+    any_bytes(chance, session->block + used, sizeof session->block - used);
+}
+
+/* It waits for the last bytes of a Start, of either layout or of none. */
+static void spoil_start(struct chance *chance, struct pomurica_session *session)
+{
+    session->stage = POMURICA_STAGE_START;
+    session->held = OLD_START_SIZE - 1 + any_below(chance, START_SIZE - OLD_START_SIZE + 2);
+    session->unfinished[KIND_PLACE] = (uint8_t)any_below(chance, 2 * POMURICA_KIND_START);
+}
+
 static void spoil_one(struct chance *chance, struct pomurica_session *session)
 {
-    switch (any_below(chance, 12)) {
+    switch (any_below(chance, 13)) {
     case 0: session->stage = any_small(chance, POMURICA_STAGE_OVER + 2); break;
     case 1: session->count = about(chance, session->steps); break;
     case 2: session->steps = about(chance, session->count); break;
@@ -95,7 +112,8 @@ static void spoil_one(struct chance *chance, struct pomurica_session *session)
     case 7: session->closed = any_small(chance, 3); break;
     case 8: spoil_record(chance, session->unfinished); break;
     case 9: session->stage = POMURICA_STAGE_OLD_NEXT + any_below(chance, 2); break; /* perhaps in the other layout */
-    case 10: any_bytes(chance, session->block + POMURICA_OLD_BLOCK_SIZE, sizeof session->block - POMURICA_OLD_BLOCK_SIZE); break;
+    case 10: spoil_behind(chance, session); break;
+    case 11: spoil_start(chance, session); break;
     default: any_block(chance, session->block); break;
     }
 }

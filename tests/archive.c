@@ -145,7 +145,7 @@ static const struct refused_call REFUSED_CALLS[] = {
 #define TDE POMURICA_HDCR_TDE
 #define DEBUG POMURICA_ABORT_DEBUG
 
-/* No. 11: debug aborts.  From Non-secure User and EL1 TDE leads them to Hyp; else they are as any that is not external. */
+/* No. 11: debug aborts.  From Non-secure User and EL1 TDE leads them to Hyp; else they are as with A 0. */
 static const struct worked_case DEBUGS[] = {
     { "NS User, TDE", { .scr = NS, .hdcr = TDE, .cpsr = 0x10, .pc = PC_HERE }, PREFETCH_ABORT, DEBUG,
       POMURICA_DONE, 0x1A14, { { CPSR, 0x1DA }, { ELR_HYP, 0x8000 }, { PC, 0x14 } }, 3 },
@@ -576,7 +576,8 @@ static void run_there_and_back(uint32_t scr, uint32_t hcr, uint32_t cpsr, uint32
     struct call entry, back;
     uint32_t target;
 
-    snprintf(name, sizeof name, "code %u, A %u, CPSR 0x%X, SCR 0x%X, HCR 0x%X, HDCR 0x%X", code, a, cpsr, scr, hcr, hdcr);
+    snprintf(name, sizeof name, "code %u, A %u, CPSR 0x%X, SCR 0x%X, HCR 0x%X, HDCR 0x%X", code, a, cpsr, scr, hcr,
+             hdcr);
     put_start(block, &(struct start){ .scr = scr, .hcr = hcr, .cpsr = cpsr, .pc = PC_HERE, .hdcr = hdcr });
     call_whole(&entry, name, block, code, a, 0);
     target = pomurica_get_word(bytes_of(&entry.answer), POMURICA_ANSWER_VALUE) >> 8 & POMURICA_CPSR_MODE;

@@ -53,15 +53,15 @@ static const uint32_t EVENTS[STEPS][3] = {
     { POMURICA_EVENT_RETURN, 0, 0 },
 };
 
-/* Kinds of a Start and a Step. */
-static uint32_t start_kind(void)
+/* Kinds of a Start, of this layout or of the other, and of a Step. */
+static uint32_t start_kind(bool in_old)
 {
-    return old ? 1 : 4;
+    return in_old ? POMURICA_OLD_KIND_START : POMURICA_KIND_START;
 }
 
 static uint32_t step_kind(void)
 {
-    return old ? 2 : 5;
+    return old ? POMURICA_OLD_KIND_STEP : POMURICA_KIND_STEP;
 }
 
 static void put_head(uint8_t *record, uint32_t length, uint32_t kind)
@@ -70,14 +70,14 @@ static void put_head(uint8_t *record, uint32_t length, uint32_t kind)
 }
 
 /*
- * Writes the trace as a recorder does: each event, its answer, and the block after it, which moves on.  In the old layout HDCR
- * of the block is 0, and the events are those that it knows.
+ * Writes the trace as a recorder does: each event, its answer, and the block after it, which moves on.  In the old
+ * layout HDCR of the block is 0, and the events are those that it knows.
  */
 static void record(uint8_t *trace, uint8_t *block, const uint32_t (*events)[3], uint32_t n)
 {
     uint8_t *step = trace + start_size(old);
 
-    put_head(trace, start_size(old), start_kind());
+    put_head(trace, start_size(old), start_kind(old));
     pomurica_put_word(trace, COUNT, n);
     memcpy(trace + 4 * START_BLOCK, block, block_size(old));
     for (size_t i = 0; i < n; i++, step += step_size(old)) {
@@ -196,7 +196,7 @@ static void run_counts(const uint8_t *trace)
     expect(changed, whole, POMURICA_BAD_COUNT, end_place(), STEPS);
 }
 
-/* The report on the trace with this length and kind in the head of a record.  A Start of the other layout has none behind it. */
+/* The report on the trace with this head of a record.  A Start of the other layout has no record behind it. */
 static void try_head(const uint8_t *trace, uint32_t record, uint32_t length, uint32_t kind)
 {
     const uint32_t place = record_place(old, record), other = start_size(!old), steps = record == 0 ? 0 : record - 1;
@@ -206,7 +206,7 @@ static void try_head(const uint8_t *trace, uint32_t record, uint32_t length, uin
     put_head(changed + place, length, kind);
     if (memcmp(changed + place, trace + place, 4) == 0)
         expect(changed, length_of(STEPS), POMURICA_DONE, length_of(STEPS), STEPS);
-    else if (record == 0 && length == other && kind == (old ? 4 : 1))
+    else if (record == 0 && length == other && kind == start_kind(!old))
         expect(changed, length_of(STEPS), POMURICA_BAD_RECORD, other, 0);
     else
         expect(changed, length_of(STEPS), POMURICA_BAD_RECORD, place, steps);
@@ -216,8 +216,8 @@ static void try_head(const uint8_t *trace, uint32_t record, uint32_t length, uin
 static void run_heads(const uint8_t *trace)
 {
     static const uint32_t LENGTHS[] = {
-        0, 4, POMURICA_END_SIZE, POMURICA_OLD_BLOCK_SIZE, POMURICA_BLOCK_SIZE, POMURICA_OLD_START_SIZE, POMURICA_START_SIZE,
-        192, POMURICA_OLD_STEP_SIZE, POMURICA_STEP_SIZE, 208, 0xFFFF
+        0, 4, POMURICA_END_SIZE, POMURICA_OLD_BLOCK_SIZE, POMURICA_BLOCK_SIZE, POMURICA_OLD_START_SIZE,
+        POMURICA_START_SIZE, 192, POMURICA_OLD_STEP_SIZE, POMURICA_STEP_SIZE, 208, 0xFFFF
     };
     static const uint32_t KINDS[] = { 0, 1, 2, 3, 4, 5, 6, 0xFFFF };
 

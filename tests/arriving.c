@@ -113,7 +113,8 @@ uint32_t record_of(size_t byte)
 /* The last block is that of the Start, or of the last Step: each has it at its end. */
 struct pomurica_session words_due(const uint8_t *trace, size_t length)
 {
-    const uint32_t record = record_of(length), place = record < RECORDS ? record_begin(record) : (uint32_t)trace_length();
+    const uint32_t record = record_of(length);
+    const uint32_t place = record < RECORDS ? record_begin(record) : (uint32_t)trace_length();
     const uint32_t block_end = record < RECORDS ? place : end_place();
     struct pomurica_session due = { .place = place, .held = (uint32_t)length - place };
 
@@ -129,11 +130,9 @@ struct pomurica_session words_due(const uint8_t *trace, size_t length)
 
 struct pomurica_session faulted(struct pomurica_session words, uint32_t number)
 {
-    const bool old = is_in_old(&words);
-
     words.fault = number;
     words.held = 0;
-    memset(words.block, 0, block_size(old));
-    memset(words.unfinished, 0, step_size(old));
+    memset(words.block, 0, sizeof words.block);
+    memset(words.unfinished, 0, sizeof words.unfinished);
     return words;
 }

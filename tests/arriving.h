@@ -52,10 +52,7 @@ void finish(struct fed *fed);
 /* The record in which a byte lies, RECORDS for one behind the trace. */
 uint32_t record_of(size_t byte);
 
-/*
- * What a session is after the first bytes of the trace; and what it becomes when a fault is known.  In the old layout the
- * bytes behind those that it uses stay.
- */
+/* What a session is after the first bytes of the trace; and what any session becomes when a fault is known. */
 struct pomurica_session words_due(const uint8_t *trace, size_t length);
 struct pomurica_session faulted(struct pomurica_session words, uint32_t number);
 

@@ -63,6 +63,16 @@ bool one_in(struct chance *chance, uint32_t times)
     return any_below(chance, times) == 0;
 }
 
+void choose_layout(struct chance *chance)
+{
+    chance->old = chance->strays = one_in(chance, 2);
+}
+
+void leave_layout(struct chance *chance)
+{
+    chance->old = chance->strays = false;
+}
+
 /* A word of one bit. */
 static uint32_t any_bit(struct chance *chance)
 {
@@ -308,7 +318,10 @@ static struct event odd_event(struct chance *chance, const uint8_t *block)
     return event;
 }
 
-/* What the old layout does not know: a debug abort, now and then with another bit beside it, and a note on HDCR. */
+/*
+ * What the old layout does not know: a debug abort, now and then with another bit beside it, and a note on HDCR; and a
+ * return with that A, which is no place there.
+ */
 static struct event event_of_new(struct chance *chance)
 {
     switch (any_below(chance, 8)) {
@@ -317,6 +330,8 @@ static struct event event_of_new(struct chance *chance)
         return (struct event){ CODE_NOTE, HDCR, any_word(chance) };
     case 2:
         return (struct event){ CODE_PREFETCH_ABORT, ABORT_DEBUG + any_below(chance, ABORT_DEBUG), 0 };
+    case 3:
+        return (struct event){ CODE_RETURN, HDCR, 0 };
     default:
         return (struct event){ CODE_PREFETCH_ABORT, ABORT_DEBUG, 0 };
     }

@@ -13,7 +13,7 @@
 /* Where the numbers come from; any seed will do. */
 struct chance {
     uint64_t seed;
-    bool old;    /* whether blocks and events are of the old layout (No. 11): without HDCR, which is then 0, and without debug */
+    bool old;    /* whether blocks and events are of the old layout (No. 11): with HDCR 0, and without debug */
     bool strays; /* whether events that it does not know come among them all the same, as in the new one */
 };
 
@@ -35,12 +35,16 @@ extern const struct saving SAVINGS[SAVING_COUNT];
 /* The largest A of each of the thirteen codes, in the new layout; 0 where the event has none. */
 extern const uint32_t LARGEST_A[];
 
+/* From here on either layout by chance, with strays; and the new one again. */
+void choose_layout(struct chance *chance);
+void leave_layout(struct chance *chance);
+
 uint32_t any_word(struct chance *chance);
 uint32_t any_below(struct chance *chance, uint32_t limit);
 bool one_in(struct chance *chance, uint32_t times);
 void any_bytes(struct chance *chance, uint8_t *bytes, size_t length);
 
-/* A block of 180 bytes, of any words, that is good.  The figures of bench/ are counted on such blocks, with events of event_of. */
+/* A block of any words that is good.  The figures of bench/ are counted on such blocks, with events of event_of. */
 void good_block(struct chance *chance, uint8_t *block);
 
 /* A block that is mostly good, sometimes almost, sometimes of any words. */

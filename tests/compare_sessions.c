@@ -78,7 +78,7 @@ static const char *const ODD_NAMES[ODDS] = {
     [TOO_MUCH_HELD] = "more held than is due", [FEWER_THAN_FOUND] = "counts fewer Steps than it found",
     [ODD_HEAD] = "holds a wrong head", [NOT_CLEARED] = "rubbish behind what it holds",
     [BEHIND_OLD] = "bytes behind an old block or record", [OLD_WENT_ON] = "they stayed, a record was right",
-    [OLD_FAILED] = "they stayed, a fault became known",
+    [OLD_FAILED] = "they went, a fault became known",
     [WRAPPED] = "its place wrapped", [WENT_ON] = "a record was found right", [ENDED] = "was over at closing",
 };
 
@@ -173,7 +173,7 @@ static struct whole check_whole(const uint8_t *trace, size_t length)
     struct whole whole;
 
     whole.number = pomurica_check(trace, length, whole.report, sizeof whole.report);
-    whole.known = bytes_until_known(length < HEAD_SIZE || is_old(trace), whole.number,
+    whole.known = bytes_until_known(is_taken_for_old(trace, length), whole.number,
                                     pomurica_get_word(whole.report, POMURICA_REPORT_PLACE));
     return whole;
 }
@@ -196,7 +196,7 @@ static enum cut cut_of(uint32_t held)
     return held < HEAD_SIZE ? WITHIN_HEAD : held == HEAD_SIZE ? BEHIND_HEAD : WITHIN_BODY;
 }
 
-/* Where the first record begins that begins in a run.  Before its kind has come, a Start may be as large as a new one. */
+/* Where the first record begins that begins in a run.  Before its kind has come, a Start may be as large as any. */
 static size_t first_begun(const struct pomurica_session *before)
 {
     if (before->held == 0)
@@ -380,11 +380,16 @@ static bool has_bytes_behind(const struct pomurica_session *words)
     return words->stage == POMURICA_STAGE_OLD_NEXT && (behind_block(words) != 0 || behind_record(words) != 0);
 }
 
-/* And whether they stayed. */
+/* And whether they stayed, or went. */
 static bool keeps_bytes_behind(const struct pomurica_session *words, const struct pomurica_session *after)
 {
     return has_bytes_behind(words) && behind_block(after) == behind_block(words) &&
            behind_record(after) == behind_record(words);
+}
+
+static bool loses_bytes_behind(const struct pomurica_session *words, const struct pomurica_session *after)
+{
+    return has_bytes_behind(words) && behind_block(after) == 0 && behind_record(after) == 0;
 }
 
 /* What the words are before anything is fed; of those that are not closed and have no fault. */
@@ -415,7 +420,7 @@ static void meet_odd_closing(const struct pomurica_session *words, const struct 
 
     met.odd_closed[counted_as(pair->closing.number)]++;
     met.odd[OLD_WENT_ON] += keeps_bytes_behind(words, &after) && after.place != words->place;
-    met.odd[OLD_FAILED] += keeps_bytes_behind(words, &after) && after.fault != words->fault;
+    met.odd[OLD_FAILED] += loses_bytes_behind(words, &after) && after.fault != words->fault;
     met.odd[WRAPPED] += after.place < words->place;
     met.odd[WENT_ON] += after.place != words->place;
     met.odd[ENDED] += pair->closing.number == POMURICA_DONE;

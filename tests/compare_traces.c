@@ -39,8 +39,8 @@ check_function OTHER_CHECK;
 #define SEED 1
 
 /*
- * How often each number is given in a thousand traces, at least; how often each answer stands in an accepted Step, and what
- * only the new layout knows: done there, and refused in the old one.
+ * How often each number is given in a thousand traces, at least; how often each answer stands in an accepted Step, and
+ * what only the new layout knows: done there, and refused in the old one.
  */
 #define SELDOM 10
 #define SELDOM_ANSWER 3
@@ -51,7 +51,7 @@ check_function OTHER_CHECK;
 /* How often each number was given, by layout and damage; a trace is of the new one if it opens with its kind. */
 static unsigned long met[LAYOUTS][DAMAGES][NUMBERS];
 
-/* How often each answer stood in a Step of an accepted trace; and, by whether it was done, in a debug abort and a note on HDCR. */
+/* How often each answer stood in an accepted Step; and, by whether it was done, a debug abort and a note on HDCR. */
 static unsigned long met_answer[LAYOUTS][STEP_NUMBERS], met_debug[LAYOUTS][2], met_note[LAYOUTS][2];
 
 /* One call of a checker, and what came of it. */
@@ -166,12 +166,13 @@ static void compare_longest(struct chance *chance, bool old)
 
 static enum layout layout_of(const uint8_t *trace, size_t length)
 {
-    return length < HEAD_SIZE || is_old(trace) ? OLD_LAYOUT : NEW_LAYOUT;
+    return is_taken_for_old(trace, length) ? OLD_LAYOUT : NEW_LAYOUT;
 }
 
 static void meet_step(enum layout layout, const uint8_t *step)
 {
-    const uint32_t code = get_word(step + STEP_CODE), a = get_word(step + STEP_A), number = get_word(step + STEP_ANSWER);
+    const uint32_t code = get_word(step + STEP_CODE), a = get_word(step + STEP_A);
+    const uint32_t number = get_word(step + STEP_ANSWER);
 
     met_answer[layout][number]++;
     met_debug[layout][number == DONE] += code == CODE_PREFETCH_ABORT && a == ABORT_DEBUG;
@@ -208,14 +209,12 @@ static void compare_random(struct chance *chance, unsigned long count, uint8_t *
     }
 }
 
-static const char *const LAYOUT_NAMES[LAYOUTS] = { [OLD_LAYOUT] = "old layout", [NEW_LAYOUT] = "new layout" };
-
 static void show(enum layout layout, unsigned long seldom)
 {
     static const uint32_t GIVEN[] = { DONE, SHORT, BAD_RECORD, BAD_COUNT, WRONG_STEP, TRAILING };
     const size_t given_count = sizeof GIVEN / sizeof GIVEN[0];
 
-    printf("  %-36s", LAYOUT_NAMES[layout]);
+    printf("  %-36s", layout_name(layout == OLD_LAYOUT));
     for (size_t i = 0; i < given_count; i++)
         printf(" %10s", pomurica_number_name(GIVEN[i]));
     printf("\n");
@@ -230,7 +229,8 @@ static void show(enum layout layout, unsigned long seldom)
 
         for (uint32_t damage = 0; damage < DAMAGES; damage++)
             times += met[layout][damage][GIVEN[i]];
-        check(times >= seldom, "%s, %s: given %lu times", LAYOUT_NAMES[layout], pomurica_number_name(GIVEN[i]), times);
+        check(times >= seldom, "%s, %s: given %lu times", layout_name(layout == OLD_LAYOUT),
+              pomurica_number_name(GIVEN[i]), times);
     }
 }
 
@@ -245,7 +245,8 @@ static void show_answers(enum layout layout, unsigned long seldom)
             continue;
         }
         printf("  a Step with %-24s %10lu\n", name, times);
-        check(times >= seldom, "%s, a Step with %s: accepted %lu times", LAYOUT_NAMES[layout], name, times);
+        check(times >= seldom, "%s, a Step with %s: accepted %lu times", layout_name(layout == OLD_LAYOUT), name,
+              times);
     }
 }
 

@@ -19,8 +19,8 @@ sys.dont_write_bytecode = True
 from names import shown  # noqa: E402
 from page import Page  # noqa: E402
 from records import (  # noqa: E402
-    BLOCK_SIZE, END_SIZE, NEW, OLD, OLD_SHORTEST, SAMPLES, SHORTEST, START_SIZE, STEP_NUMBER, STEP_SIZE, accepted, long_trace,
-    start_record)
+    BLOCK_SIZE, END_SIZE, NEW, OLD, OLD_SHORTEST, SAMPLES, SHORTEST, START_SIZE, STEP_NUMBER, STEP_SIZE, accepted,
+    long_trace, start_record)
 from runs import Runs, on_terminal, read, write  # noqa: E402
 from status import differing_fields  # noqa: E402
 
@@ -145,11 +145,14 @@ DUE = {
     b'\xc8\0\2\0': f'BAD_RECORD: the Start was due, of length 188 and kind 4, {NEITHER}length 200 and kind 2 are there',
     SHORTEST[:-8]: 'SHORT: the End of 8 bytes was due; only 0 are there',
     OLD_SHORTEST[:-8]: 'SHORT: the End of 8 bytes was due; only 0 are there',
-    SHORTEST[:-8] + b'\xcc\0\5\0': 'BAD_RECORD: the End was due, of length 8 and kind 3; length 204 and kind 5 are there',
-    SHORTEST[:-8] + b'\xc8\0\2\0': 'BAD_RECORD: the End was due, of length 8 and kind 3; length 200 and kind 2 are there, '
-                                    'a Step of the old layout behind a Start of the new one',
-    start_record(1) + b'\xc8\0\2\0': 'BAD_RECORD: a Step was due, of length 204 and kind 5; length 200 and kind 2 are there, '
-                                      'a Step of the old layout behind a Start of the new one',
+    SHORTEST[:-8] + b'\xcc\0\5\0':
+        'BAD_RECORD: the End was due, of length 8 and kind 3; length 204 and kind 5 are there',
+    SHORTEST[:-8] + b'\xc8\0\2\0':
+        'BAD_RECORD: the End was due, of length 8 and kind 3; length 200 and kind 2 are there, '
+        'a Step of the old layout behind a Start of the new one',
+    start_record(1) + b'\xc8\0\2\0':
+        'BAD_RECORD: a Step was due, of length 204 and kind 5; length 200 and kind 2 are there, '
+        'a Step of the old layout behind a Start of the new one',
     start_record(1, bytes(OLD.block_size), OLD) + b'\xcc\0\5\0':
         'BAD_RECORD: a Step was due, of length 200 and kind 2; length 204 and kind 5 are there, '
         'a Step of the new layout behind a Start of the old one',
@@ -161,7 +164,8 @@ def try_due():
         name, told = due.split(': ', 1)
         status, out, err = run('--explain', write('begun', content))
         line, *under = out.decode().splitlines()
-        expect(f'due: {told}', (status, under, err) == (1, [f'  {told}'], b'') and f' {name} at byte ' in line, (line, under))
+        expect(f'due: {told}', (status, under, err) == (1, [f'  {told}'], b'') and f' {name} at byte ' in line,
+               (line, under))
         expect_page('its page', page_of('begun'), told, steps=0)
 
 
@@ -171,7 +175,8 @@ def try_layouts():
         out = run('--trace', os.path.join(SAMPLES, f'{name}.trace'))[1].decode()
         seen = out.count('debug Prefetch Abort'), out.count('note: HDCR becomes')
         expect(f'--trace {name}: debug aborts and notes of HDCR', seen == due, out)
-    refused = re.findall(r': ([^:;]*);[^;]*; (refused .*)', run('--trace', os.path.join(SAMPLES, 'debug-in-old.trace'))[1].decode())
+    out = run('--trace', os.path.join(SAMPLES, 'debug-in-old.trace'))[1].decode()
+    refused = re.findall(r': ([^:;]*);[^;]*; (refused .*)', out)
     expect('refused in the old one', refused == [
         (event, 'refused with 4 BAD_EVENT (not known in the old layout)') for event in
         ('Prefetch Abort, A 4, above 3', 'note of 0x00000000, A 44, above 43')], refused)
@@ -368,7 +373,8 @@ def limit_steps(form):
     for code, a, (number, value) in itertools.product(
             range(15), (2, 3, 4, 5, 8, 9, 31, 32, 43, 44, 45, 63, 64),
             ((0, 6 << 16), (0, 7 << 16), (4, 0), (14, 0), (15, 0), (16, 0), (17, 0))):
-        yield struct.pack('<HHIIIII', form.step_size, form.step_kind, code, a, 0, number, value) + bytes(form.block_size)
+        words = struct.pack('<HHIIIII', form.step_size, form.step_kind, code, a, 0, number, value)
+        yield words + bytes(form.block_size)
 
 
 def try_unjudged(form=NEW):
@@ -409,7 +415,8 @@ def try_long_pages():
     write('long', long_trace(65535)[:-1])
     expect_page('a page of 65,535 Steps, cut', page_of('long'), 'stops here: 8 SHORT at byte 13369328')
     write('long', long_trace(65535, 40000, OLD))
-    expect_page('the same of the old layout with a wrong one', page_of('long'), 'Step 40,000 WRONG', steps=2000, wrong=['40000'])
+    expect_page('the same of the old layout with a wrong one', page_of('long'), 'Step 40,000 WRONG', steps=2000,
+                wrong=['40000'])
 
 
 # Names that would forge a line, order the terminal about or turn the verdict round, names of signs that a page is made of,

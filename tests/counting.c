@@ -46,9 +46,9 @@ static size_t any_short_trace(struct chance *chance, uint8_t *trace)
     const uint32_t n = any_below(chance, FEW + 1);
     size_t length;
 
-    chance->old = chance->strays = one_in(chance, 2);
+    choose_layout(chance);
     length = one_in(chance, 2) ? record_trace(chance, n, trace) : record_checks(chance, n, trace);
-    chance->old = chance->strays = false;
+    leave_layout(chance);
     return length;
 }
 

@@ -11,6 +11,8 @@
 #include "pomurica.h"
 #include "traces.h"
 
+#include "../host/record.h"
+
 #include <inttypes.h>
 #include <stdio.h>
 #include <stdlib.h>
@@ -140,24 +142,18 @@ static size_t trace_length(void)
 
 /* --------------------------------------------------------------- Traces */
 
-/* Whether the layout knows the event; what it does not know is as an event of no code. */
-static bool is_known(const struct event *event)
+/* A Step behind the record that has the block before it: what its layout gives. */
+static void put_step(uint8_t *step, const struct event *event)
 {
-    if (!old)
-        return true;
-    return !(event->code == POMURICA_EVENT_PREFETCH_ABORT && event->a == POMURICA_ABORT_DEBUG) &&
-           !(event->code == POMURICA_EVENT_NOTE && event->a == POMURICA_PLACE_HDCR);
-}
+    struct due due;
 
-static void put_step(uint8_t *step, uint8_t *block, const struct event *event)
-{
     pomurica_put_word(step, POMURICA_RECORD_HEAD, old ? POMURICA_OLD_STEP_HEAD : POMURICA_STEP_HEAD);
     pomurica_put_word(step, POMURICA_STEP_CODE, event->code);
     pomurica_put_word(step, POMURICA_STEP_A, event->a);
     pomurica_put_word(step, POMURICA_STEP_B, event->b);
-    pomurica_step(block, POMURICA_BLOCK_SIZE, is_known(event) ? event->code : 0, event->a, event->b,
-                  step + 4 * POMURICA_STEP_NUMBER, POMURICA_ANSWER_SIZE);
-    memcpy(step + 4 * POMURICA_STEP_BLOCK, block, block_size(old));
+    find_due(step, &due);
+    memcpy(step + 4 * POMURICA_STEP_NUMBER, due.answer, sizeof due.answer);
+    memcpy(step + 4 * POMURICA_STEP_BLOCK, due.block, block_size(old));
 }
 
 /* The trace of n events, each so many times, as a recorder writes it. */
@@ -173,7 +169,7 @@ static void record(uint8_t *trace, const struct event *events, uint32_t n, uint3
     memcpy(record + 4 * POMURICA_START_BLOCK, block, block_size(old));
     record += start_size(old);
     for (uint32_t i = 0; i < n * times; i++, record += step_size(old))
-        put_step(record, block, &events[i / times]);
+        put_step(record, &events[i / times]);
     pomurica_put_word(record, POMURICA_RECORD_HEAD, POMURICA_END_HEAD);
     pomurica_put_word(record, POMURICA_RECORD_COUNT, n * times);
 }

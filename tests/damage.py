@@ -118,7 +118,8 @@ def try_kinds():
 def try_layouts():
     """What a recorder of the old layout has of the same events; and a Step alone of the other one."""
     expect('the honest trace, as an old one', damage('old') == (0, HONEST_OLD, b'') and HONEST_OLD == as_old(HONEST))
-    for kind in (['flip-all', 'MVBAR', '31'], ['undone', '3'], ['skip', '9'], ['stale', '7', 'SPSR_irq'], ['end-count', '1']):
+    for kind in (['flip-all', 'MVBAR', '31'], ['undone', '3'], ['skip', '9'], ['stale', '7', 'SPSR_irq'],
+                 ['end-count', '1']):
         new, old = damage(*kind)[1], damage(*kind, given=HONEST_OLD)[1]
         expect(f'{" ".join(kind)}, of a trace of either layout', as_old(new) == old != HONEST_OLD)
     turned, at = damage('turn', '9', given=HONEST_OLD)[1], OLD.start_size + 8 * OLD.step_size

@@ -218,7 +218,7 @@ static void show_debugs(void)
     static const char *const COLUMNS[] = { "TDE 0", "TDE 1" };
     static const char *const NOTES[] = { "TDE set", "TDE cleared" };
 
-    printf("\n  debug aborts from a mode, with NS and TGE, by TDE: a to Abort, h to Hyp at 0x14, o in Hyp at its own offset");
+    printf("\n  debug aborts from a mode, with NS and TGE, by TDE: a to Abort, h to Hyp at 0x14, o in Hyp at 0x0C");
     show_heads("from", COLUMNS, COUNT(COLUMNS));
     for (uint32_t i = 0; i < MODE_COUNT; i++)
         for (uint32_t ns = 0; ns <= 1; ns++)

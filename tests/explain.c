@@ -107,13 +107,13 @@ static void damaged(struct chance *chance, enum damage damage)
         uint8_t report[POMURICA_REPORT_SIZE];
         const uint32_t number = pomurica_check(trace, length, report, sizeof report);
         const struct told told = explain(trace, length);
-        const bool is_wrong_step = number == POMURICA_WRONG_STEP;
+        const bool is_part = told.part >= POMURICA_PART_NUMBER && told.part <= last_part(is_old(trace));
 
         check(told.returned == number && told.number == number &&
                   told.place == pomurica_get_word(report, 1) && told.steps == pomurica_get_word(report, 2),
               "%s: not the checker's report", DAMAGE_NAMES[damage]);
-        check(is_wrong_step ? told.part >= POMURICA_PART_NUMBER && told.part <= last_part(is_old(trace)) && told.found != told.due
-                            : (told.part | told.found | told.due) == 0,
+        check(number == POMURICA_WRONG_STEP ? is_part && told.found != told.due
+                                            : (told.part | told.found | told.due) == 0,
               "%s: part %u of %u", DAMAGE_NAMES[damage], (unsigned)told.part, (unsigned)number);
     }
 }

@@ -1,4 +1,4 @@
-"""docs/FORMAT.md's drawn trace, put together in both layouts and judged, and its numbers and the README's held against the header's.
+"""docs/FORMAT.md's drawn trace, put together in both layouts and judged; its numbers, and README's, by the header's.
 
     format.py CONSOLE...
 
@@ -116,7 +116,8 @@ def check_records(numbers):
     for record, layout, size, kind, head in rows:
         prefix, name = "OLD_" if layout == "old" else "", record.upper()
         due = numbers[f"{prefix}{name}_SIZE"], numbers[f"{prefix}KIND_{name}"]
-        check((int(size), int(kind)) == due and bytes_of(head) == due[0].to_bytes(2, "little") + due[1].to_bytes(2, "little"),
+        halves = b"".join(number.to_bytes(2, "little") for number in due)
+        check((int(size), int(kind)) == due and bytes_of(head) == halves,
               f"length, kind and head of the {record}, {layout}")
     check(len(rows) == 5, "a Start and a Step of each layout, and an End")
 
@@ -126,7 +127,8 @@ def check_judged(console, name, trace, start, spsr):
     status, line = judge(console, trace)
     check(status == 0 and line.startswith("accepted, 1 Steps"), f"{name} is accepted, 1 Steps")
     status, line = judge(console, trace[:spsr] + b"\0" + trace[spsr + 1:])
-    check(status == 1 and line == f"refused 11 WRONG_STEP at byte {start} after 0 Steps\n", "without its SPSR_svc it is refused")
+    check(status == 1 and line == f"refused 11 WRONG_STEP at byte {start} after 0 Steps\n",
+          "without its SPSR_svc it is refused")
 
 
 def main():

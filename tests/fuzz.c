@@ -40,7 +40,7 @@ static void hold(bool held, const char *what)
     abort();
 }
 
-/* The place is that of the record due after so many right Steps, or behind the End; those of a trace whose Start is right. */
+/* The place is that of the record due after so many right Steps, or behind the End; of a trace whose Start is right. */
 static bool is_behind_start(const struct judged *judged)
 {
     const uint32_t next = step_place(judged->trace, judged->steps), end = next + POMURICA_END_SIZE;
@@ -140,8 +140,8 @@ static void check_right(const struct judged *judged)
 }
 
 /*
- * The events of a trace of the new layout, recorded from the start block, give those Steps again, and an accepted trace to
- * its last byte.  There is no recorder of the old one.
+ * The events of a trace of the new layout, recorded from the start block, give those Steps again, and an accepted trace
+ * to its last byte.  There is no recorder of the old one.
  */
 static void check_recorded(const struct judged *judged)
 {

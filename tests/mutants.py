@@ -10,12 +10,12 @@ SCRIPT = os.path.abspath(sys.argv[1])
 # count.
 # Of a disabled call: the refusal gone, the trap forgotten, SMC by the bit of HVC, HVC by the bit of SMC.
 # Of a return: each row of the list of illegal ones gone, IL forgotten, an odd address, A from Hyp, a saved word not looked at.
-# Of debug and the layouts: another A, HDCR not asked, a state where it does not go to Hyp, known in the old layout, unknown in the
-# new one, a kind above the new Start's.
+# Of debug and the layouts: another A, HDCR not asked, a state where it does not go to Hyp, known in the old layout,
+# unknown in the new one, a kind above the new Start's.
 # Of the batch: an answer too many, more events than answers, an event left out.
 # Of the counts: a code too few, refused Steps counted as done, a sum that just fits, room that just does.
-# Of a session: the most Steps refused, the other layout, a byte too many held, a head judged too often, a block kept, a feeding
-# after closing.
+# Of a session: the most Steps refused, the other layout, a byte too many held, a head judged too often, a block kept,
+# a feeding after closing.
 # Of a recording: the most events refused, room that just does, bytes before the offset as room, no end of the buffer, no kind.
 KILLED = [
     *(f'LARGEST: [CODE_{code}] = {{ {a}, [[0 => 1]] }},' for code, a in [
@@ -57,7 +57,7 @@ KILLED = [
     'take_start: session->stage = layout == [[OLD_LAYOUT => NEW_LAYOUT]] ? STAGE_OLD_NEXT : STAGE_NEXT;',
     'take_byte: if (session->held [[>= => >]] record_due(session).length)',
     'take_byte: if (session->held [[== => >=]] HEADER_SIZE && !second_is_due(session->unfinished, due))',
-    'keep_fault: [[memset(session->block, 0, BLOCK_LENGTH[layout]) => ]];',
+    'keep_fault: [[memset(session->block, 0, sizeof session->block) => ]];',
     'second_feed: [[return CLOSED => ]];',
     'second_record: if (events_len [[> => >=]] MOST_STEPS)',
     'has_room: return buffer_len - offset [[>= => >]] length;',

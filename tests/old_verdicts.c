@@ -88,8 +88,9 @@ static int judge_file(const char *path)
     length = fread(bytes, 1, sizeof bytes, file);
     fclose(file);
     pomurica_check(bytes, length, report, sizeof report);
-    printf("%s: %" PRIu32 " %" PRIu32 " %" PRIu32 "\n", name_of(path), pomurica_get_word(report, POMURICA_REPORT_NUMBER),
-           pomurica_get_word(report, POMURICA_REPORT_PLACE), pomurica_get_word(report, POMURICA_REPORT_STEPS));
+    printf("%s: %" PRIu32 " %" PRIu32 " %" PRIu32 "\n", name_of(path),
+           pomurica_get_word(report, POMURICA_REPORT_NUMBER), pomurica_get_word(report, POMURICA_REPORT_PLACE),
+           pomurica_get_word(report, POMURICA_REPORT_STEPS));
     return 0;
 }
 

@@ -36,7 +36,8 @@ def may_be(patterns, name, text):
 def changed_words(trace, place):
     """The rows that the page has to have for the Step at a place that is not wrong."""
     form = layout_of(trace)
-    before, after = (struct.unpack_from(f'<{form.places}I', trace, at) for at in (place - form.block_size, place + STEP_BLOCK))
+    blocks = place - form.block_size, place + STEP_BLOCK
+    before, after = (struct.unpack_from(f'<{form.places}I', trace, at) for at in blocks)
     changed = zip(REGISTERS, before, after)
     return [[name, f'0x{old:08X}', f'0x{new:08X}'] for name, old, new in changed if old != new]
 

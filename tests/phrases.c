@@ -254,12 +254,12 @@ static void try_event(uint32_t mode, struct pomurica_event event)
 
     fill_block(block, mode, POMURICA_SCR_NS);
     bad = pomurica_step(block, sizeof block, event.code, event.a, event.b, answer, sizeof answer) == POMURICA_BAD_EVENT;
-    bad_in_old = bad || (event.code == POMURICA_EVENT_PREFETCH_ABORT && event.a == 4) ||
-                 (event.code == POMURICA_EVENT_NOTE && event.a == 44);
+    bad_in_old = bad || (event.code == POMURICA_EVENT_PREFETCH_ABORT && event.a == POMURICA_ABORT_DEBUG) ||
+                 (event.code == POMURICA_EVENT_NOTE && event.a == POMURICA_PLACE_HDCR);
     expect_bad(mode, event, bad, said_from(mode, event));
     expect_bad(mode, event, bad_in_old, said_in_old(mode, event));
-    check(is_due_bad(step) == bad && is_due_bad(in_old_trace(step)) == bad_in_old, "mode %x, code %u, A %u: due otherwise",
-          (unsigned)mode, (unsigned)event.code, (unsigned)event.a);
+    check(is_due_bad(step) == bad && is_due_bad(in_old_trace(step)) == bad_in_old,
+          "mode %x, code %u, A %u: due otherwise", (unsigned)mode, (unsigned)event.code, (unsigned)event.a);
 }
 
 static void try_events(uint32_t mode)

@@ -13,8 +13,8 @@ import tempfile
 
 sys.dont_write_bytecode = True
 from records import (  # noqa: E402
-    END_SIZE, LONGEST, OLD, OLD_SHORTEST, SAMPLES, SHORTEST, START_SIZE, STEP_SIZE, accepted, end_record, layout_of, length_of,
-    long_trace, start_record)
+    END_SIZE, LONGEST, OLD, OLD_SHORTEST, SAMPLES, SHORTEST, START_SIZE, STEP_SIZE, accepted, end_record, layout_of,
+    length_of, long_trace, start_record)
 from runs import Live, Runs, comes_true, failing_file, is_taken, most_memory, read, write  # noqa: E402
 
 KIND, FOLDER, LINES, COMMAND = sys.argv[1], os.path.abspath(sys.argv[2]), os.path.abspath(sys.argv[3]), sys.argv[4:]
@@ -42,8 +42,8 @@ FAULTY = {
     'the length of a new Start, and the kind of an old one': (b'\xbc\0\1\0' + SHORTEST[4:], 9, 'BAD_RECORD', 0, 0),
     'the length of an old Start, and the kind of a new one': (b'\xb8\0\4\0' + OLD_SHORTEST[4:], 9, 'BAD_RECORD', 0, 0),
     'a new Step behind an old Start': (MIXED, 9, 'BAD_RECORD', 984, 4),
-    'an old Start that counts too much': (start_record(LONGEST + 1, bytes(OLD.block_size), OLD) + end_record(0), 10, 'BAD_COUNT',
-                                          0, 0),
+    'an old Start that counts too much': (start_record(LONGEST + 1, bytes(OLD.block_size), OLD) + end_record(0), 10,
+                                          'BAD_COUNT', 0, 0),
     'a wrong Step of the old layout': (TAKEN_IN_OLD, 11, 'WRONG_STEP', 384, 1),
     'two traces of the old layout': (HONEST_OLD + HONEST_OLD, 12, 'TRAILING', len(HONEST_OLD), 9),
     'no End': (SHORTEST[:START_SIZE] + bytes(END_SIZE), 9, 'BAD_RECORD', START_SIZE, 0),

@@ -333,8 +333,8 @@ static void do_far_offsets(size_t count, size_t buffer_len)
 {
     const size_t size = POMURICA_TRACE_SIZE(count), behind_words = (size_t)UINT32_MAX + 1;
     const size_t offsets[] = {
-        SIZE_MAX - 7, SIZE_MAX - SHORTEST_SIZE + 1, SIZE_MAX - size, SIZE_MAX - size + SHORTEST_SIZE / 2, SIZE_MAX - buffer_len,
-        SIZE_MAX / 2, SIZE_MAX / 2 - size, SIZE_MAX / 4, SIZE_MAX / POMURICA_STEP_SIZE,
+        SIZE_MAX - 7, SIZE_MAX - SHORTEST_SIZE + 1, SIZE_MAX - size, SIZE_MAX - size + SHORTEST_SIZE / 2,
+        SIZE_MAX - buffer_len, SIZE_MAX / 2, SIZE_MAX / 2 - size, SIZE_MAX / 4, SIZE_MAX / POMURICA_STEP_SIZE,
         behind_words, behind_words + 16, behind_words + buffer_len - size, behind_words / 2, behind_words * 256 + 16
     };
 

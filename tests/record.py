@@ -94,7 +94,7 @@ def help_lists():
 
 
 def flags_of(form):
-    """The words of an event of which each may stand, `[FIQ] [IRQ]`, and those of which one may, `[less-2|less-4]` and `| debug`."""
+    """The words of an event of which each may stand, `[FIQ] [IRQ]`, and of which one, `[less-2|less-4]`, `| debug`."""
     groups = [operand.strip('[]').split('|') for operand in form if operand.startswith('[')]
     alone = [word for before, word in zip(form, form[1:]) if before == '|']
     return ([words[0] for words in groups if len(words) == 1],
@@ -110,7 +110,8 @@ def try_help():
     expect('an event for each code of the header, and one in plain numbers',
            sorted(map(code_of, plain)) == list(range(1, len(plain) + 1)) and len(plain) == len(kinds('EVENT')), forms)
     expect('in the order of their codes', [code_of(word) for word in forms if word != 'event'] == sorted(map(code_of, plain)))
-    for word, kind, none in (('interrupt', 'LINE', set()), ('prefetch-abort', 'ABORT', set()), ('data-abort', 'ABORT', {'DEBUG'})):
+    for word, kind, none in (
+            ('interrupt', 'LINE', set()), ('prefetch-abort', 'ABORT', set()), ('data-abort', 'ABORT', {'DEBUG'})):
         flags = {flag.upper().replace('-', '_') for flags in flags_of(forms[word]) for flag in flags}
         expect(f'every {kind} of the header, for {word}', flags == kinds(kind) - none, flags)
     expect('debug stands alone', flags_of(forms['prefetch-abort'])[1] == ['debug'], forms['prefetch-abort'])

@@ -74,7 +74,7 @@ def long_trace(count, wrong=None, form=NEW):
         sample = file.read()
     start, round_trip = sample[START_BLOCK:form.start_size], sample[form.start_size:-END_SIZE]
     block = round_trip[-form.block_size:]
-    for place in [CPSR, *(place for place in range(form.places) if place != CPSR)]:  # CPSR first: User may have any other word
+    for place in sorted(range(form.places), key=lambda place: place != CPSR):  # it first: User may have any other word
         step, block = note(block, place, start[4 * place:4 * place + 4], form)
         round_trip += step
     steps = bytearray((round_trip * (form.step_size * count // len(round_trip) + 1))[:form.step_size * count])
@@ -84,7 +84,7 @@ def long_trace(count, wrong=None, form=NEW):
 
 
 def as_old(trace):
-    """A trace of whole records in the old layout: each block loses its last word. Its events are those that this one knows."""
+    """A trace of whole records in the old layout: each block loses its last word. Its events are those known there."""
     cut = bytearray(struct.pack('<HH', OLD.start_size, OLD.start_kind) + trace[4:START_SIZE - 4])
     for at in range(START_SIZE, len(trace) - END_SIZE, STEP_SIZE):
         cut += struct.pack('<HH', OLD.step_size, OLD.step_kind) + trace[at + 4:at + STEP_SIZE - 4]

@@ -16,7 +16,8 @@ NUMBER, COUNT, BYTE, WORD = '[0-9]+', '[0-9]{1,3}(,[0-9]{3})*', '0x[0-9A-F]{2}',
 ANSWER = f'{NUMBER} ' + any_of(*'DONE BAD_SIZE BAD_MODE BAD_STATE BAD_EVENT NOT_HERE NO_REGISTER NO_RIGHT SHORT BAD_RECORD '
                                'BAD_COUNT WRONG_STEP TRAILING FULL CLOSED NO_ROOM DISABLED OWN_REGISTER UNKNOWN'.split())
 REASONED = any_of(r'16 DISABLED \(HVC is disabled: SCR\.HCE is 0\)', r'16 DISABLED \(SMC is disabled: SCR\.SCD is 1\)',
-                  r'3 BAD_STATE \(bits 24-21 of the saved word are not 0\)', r'4 BAD_EVENT \(not known in the old layout\)',
+                  r'3 BAD_STATE \(bits 24-21 of the saved word are not 0\)',
+                  r'4 BAD_EVENT \(not known in the old layout\)',
                   r'17 OWN_REGISTER \(its own register, reached by another instruction\)',
                   r'7 NO_RIGHT \((no banked register is accessible from User|not accessible from this mode and state)\)')
 REGISTER = any_of(*REGISTERS)
@@ -55,8 +56,8 @@ SAID = {
         f'{RECORD} of {NUMBER} bytes was due; only {NUMBER} are there',
         f'the Start of {NUMBER} bytes was due, or of {NUMBER} in the old layout; only {NUMBER} are there',
         f'{RECORD} was due, of length {NUMBER} and kind {NUMBER}(, or of {NUMBER} and {NUMBER} in the old layout)?; '
-        f'length {NUMBER} and kind {NUMBER} are there(, a Step of the (new layout behind a Start of the old|old layout behind a '
-        'Start of the new) one)?',
+        f'length {NUMBER} and kind {NUMBER} are there'
+        '(, a Step of the (new layout behind a Start of the old|old layout behind a Start of the new) one)?',
         f'the Start counts {NUMBER} Steps; there may be {NUMBER}',
         f'the Start counts {NUMBER} Steps, the End {NUMBER}',
         'the trace was whole, and more bytes follow its End',

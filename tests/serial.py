@@ -186,7 +186,8 @@ def try_follow():
             seen = console.end()
         expect(f'a wrong Step over a line {way}: told while the unit sends', (early, told) ==
                (b'', shown + b': 11 WRONG_STEP known after 1616 bytes\n'), (early, told))
-        expect('and the verdict', seen == (1, shown + b': refused 11 WRONG_STEP at byte 1412 after 6 Steps\n', b''), seen)
+        expect('and the verdict',
+               seen == (1, shown + b': refused 11 WRONG_STEP at byte 1412 after 6 Steps\n', b''), seen)
 
 
 def trace_of_signs():

@@ -76,7 +76,8 @@ static void run_honest(const uint8_t *trace)
     for (size_t length = 0; length <= trace_length(); length++) {
         const struct pomurica_session due = words_due(trace, length);
         const struct pomurica_session at_once = words_after(trace, length, POMURICA_DONE);
-        const struct verdict verdict = { length < trace_length() ? POMURICA_SHORT : POMURICA_DONE, due.place, due.steps };
+        const uint32_t number = length < trace_length() ? POMURICA_SHORT : POMURICA_DONE;
+        const struct verdict verdict = { number, due.place, due.steps };
         const struct verdict checked = verdict_of(trace, length);
 
         check(has_words(&fed, &due), "byte by byte, %zu bytes: other words", length);
@@ -173,7 +174,7 @@ static uint32_t head_of(bool old, uint32_t record)
     return old ? POMURICA_OLD_STEP_HEAD : POMURICA_STEP_HEAD;
 }
 
-/* A Step of the other layout, and length and kind that do not go together; a Start of the other one fails behind its own end. */
+/* A Step of the other layout, and length and kind that do not go together; behind another Start its own Step is due. */
 static void run_mixed(const uint8_t *trace)
 {
     const bool old = is_arriving_in_old();

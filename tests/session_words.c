@@ -2,7 +2,7 @@
  * Sessions of words that no feeding leaves, called from C, in both layouts: each
  * gets an answer, by the same rules, whether its bytes come at once or one by
  * one.  Where a trace is of the old layout, the bytes behind those that it uses
- * stay whatever they are.
+ * stay whatever they are, until a fault clears all.
  */
 #include "arriving.h"
 #include "edge.h"
@@ -191,38 +191,104 @@ static void run_odd_counts(const uint8_t *trace)
     }
 }
 
-/*
- * In the old layout: a right record, each fault and closing leave the bytes behind those that are used; a Step goes from HDCR 0,
- * whatever they are.
- */
-static void run_bytes_behind(const uint8_t *trace)
+/* The same session with bytes of chance wherever none has come, and in the block as far as it is not of the trace. */
+static struct pomurica_session with_any_behind(struct chance *chance, struct pomurica_session words)
 {
-    for (uint32_t record = 0; record < RECORDS; record++) {
-        const uint32_t place = record_begin(record), size = record_end(record) - place;
-        const struct pomurica_session words = with_bytes_behind(words_due(trace, place));
-        struct pomurica_session due = with_bytes_behind(words_due(trace, place + size));
-        uint8_t wrong[POMURICA_STEP_SIZE];
+    const size_t had = words.stage == POMURICA_STAGE_START ? 0 : block_size(is_arriving_in_old());
 
-        expect_fed("bytes behind, a right record", &words, trace + place, size, POMURICA_DONE, &due);
-        expect_closed(&words, POMURICA_SHORT);
-        memcpy(wrong, trace + place, size);
-        wrong[0] ^= 1;
-        due = with_bytes_behind(faulted(words, POMURICA_BAD_RECORD));
-        expect_fed("bytes behind, a wrong head", &words, wrong, size, POMURICA_BAD_RECORD, &due);
+    any_bytes(chance, words.block + had, sizeof words.block - had);
+    any_bytes(chance, words.unfinished + words.held, sizeof words.unfinished - words.held);
+    return words;
+}
+
+/* What a session becomes with the last byte of a right record: the bytes behind those that an old trace uses stay. */
+static struct pomurica_session gone_on(const uint8_t *trace, uint32_t record, const struct pomurica_session *words)
+{
+    const size_t block = block_size(is_arriving_in_old()), room = step_size(is_arriving_in_old());
+    struct pomurica_session due = words_due(trace, record_end(record));
+
+    memcpy(due.block + block, words->block + block, sizeof due.block - block);
+    memcpy(due.unfinished + room, words->unfinished + room, sizeof due.unfinished - room);
+    return due;
+}
+
+/* So many bytes of a record are held, and the others come: all but the last, and then that too. */
+static void try_right_behind(struct chance *chance, const uint8_t *trace, uint32_t record, size_t held)
+{
+    const uint8_t *const rest = trace + record_begin(record) + held;
+    const size_t size = record_end(record) - record_begin(record);
+    const struct pomurica_session words = with_any_behind(chance, words_due(trace, record_begin(record) + held));
+    struct pomurica_session due = words;
+
+    due.held = (uint32_t)size - 1;
+    memcpy(due.unfinished + held, rest, size - 1 - held);
+    expect_fed("bytes behind, a record without its last byte", &words, rest, size - 1 - held, POMURICA_DONE, &due);
+    due = gone_on(trace, record, &words);
+    expect_fed("bytes behind, a right record", &words, rest, size - held, POMURICA_DONE, &due);
+}
+
+/* The same of a record with one byte changed, which is a fault: no byte is left. */
+static void try_fault_behind(struct chance *chance, const uint8_t *trace, uint32_t record, size_t held, size_t byte,
+                             uint32_t number)
+{
+    const size_t place = record_begin(record), size = record_end(record) - place;
+    uint8_t changed[MOST_LENGTH];
+    struct pomurica_session words, due;
+
+    memcpy(changed, trace, trace_length());
+    changed[place + byte] ^= 1;
+    words = with_any_behind(chance, words_due(changed, place + held));
+    due = faulted(words, number);
+    expect_fed("bytes behind, a fault", &words, changed + place + held, size - held, number, &due);
+}
+
+/* Each record, with any number of its bytes held: right; wrong in its head; in a Start's n, or in the last byte. */
+static void run_bytes_behind(struct chance *chance, const uint8_t *trace)
+{
+    const size_t over_most = sizeof(uint32_t) * POMURICA_RECORD_COUNT + sizeof(uint16_t); /* n and 65,536 */
+
+    for (uint32_t record = 0; record < RECORDS; record++) {
+        const size_t size = record_end(record) - record_begin(record), byte = record == 0 ? over_most : size - 1;
+        const uint32_t number = record == 0 || record > STEPS ? POMURICA_BAD_COUNT : POMURICA_WRONG_STEP;
+
+        for (size_t held = 0; held < size; held++) {
+            try_right_behind(chance, trace, record, held);
+            try_fault_behind(chance, trace, record, held, 0, POMURICA_BAD_RECORD);
+            try_fault_behind(chance, trace, record, held, byte, number);
+        }
     }
 }
 
-/* The same of a Step whose last byte is wrong. */
-static void run_behind_wrong_step(const uint8_t *trace)
+/* The End with a byte too many, which may come with it or by itself; the same of a session that closing ends. */
+static void run_trailing_behind(struct chance *chance, const uint8_t *trace)
 {
-    const size_t step = record_begin(STEPS), size = end_place() - step;
-    const struct pomurica_session words = with_bytes_behind(words_due(trace, step));
-    const struct pomurica_session due = with_bytes_behind(faulted(words, POMURICA_WRONG_STEP));
-    uint8_t wrong[POMURICA_STEP_SIZE];
+    uint8_t longer[MOST_LENGTH + 1] = { 0 };
 
-    memcpy(wrong, trace + step, size);
-    wrong[size - 1] ^= 1;
-    expect_fed("bytes behind, a wrong Step", &words, wrong, size, POMURICA_WRONG_STEP, &due);
+    memcpy(longer, trace, trace_length());
+    for (size_t length = end_place(); length <= trace_length(); length++) {
+        const struct pomurica_session words = with_any_behind(chance, words_due(trace, length));
+        const struct pomurica_session due = faulted(words_due(trace, trace_length()), POMURICA_TRAILING);
+        const size_t left = trace_length() + 1 - length;
+
+        expect_closed(&words, length < trace_length() ? POMURICA_SHORT : POMURICA_DONE);
+        expect_fed("bytes behind, one too many", &words, longer + length, left, POMURICA_TRAILING, &due);
+    }
+}
+
+/* A Start of which too few bytes have come to tell its kind, where the other layout's head stands: it plays no part. */
+static void run_other_head_behind(const uint8_t *trace)
+{
+    for (size_t held = 0; held < HEAD_SIZE; held++) {
+        const uint32_t other = is_arriving_in_old() ? POMURICA_START_HEAD : POMURICA_OLD_START_HEAD;
+        struct pomurica_session words = words_due(trace, 0), due;
+
+        pomurica_put_word(words.unfinished, POMURICA_RECORD_HEAD, other);
+        memcpy(words.unfinished, trace, held);
+        words.held = (uint32_t)held;
+        words = with_bytes_behind(words);
+        due = gone_on(trace, 0, &words);
+        expect_fed("another head behind", &words, trace + held, record_end(0) - held, POMURICA_DONE, &due);
+    }
 }
 
 /* A session of one layout that is fed the Steps of the other. */
@@ -259,11 +325,10 @@ static void run_in(bool old)
     run_odd_counts(trace);
     group_of(layout, "a stage of the other one");
     run_other_stage(trace);
-    if (!old)
-        return;
-    group_of(layout, "bytes behind those that it uses");
-    run_bytes_behind(trace);
-    run_behind_wrong_step(trace);
+    group_of(layout, "any bytes behind those that have come");
+    run_bytes_behind(&chance, trace);
+    run_trailing_behind(&chance, trace);
+    run_other_head_behind(trace);
 }
 
 int main(void)

@@ -59,7 +59,7 @@ enum due {
 };
 enum due due_of(const struct pomurica_session *words);
 
-/* Whether it is in the old layout: by the kind that it holds while the Start is due, and then by its stage; not behind the End. */
+/* Whether it is in the old layout: while the Start is due by the kind that it holds, then by its stage; not if over. */
 bool is_in_old(const struct pomurica_session *words);
 
 /* The size and the first word of the record due; 0 for none. */

@@ -83,9 +83,9 @@ size_t record_either(struct chance *chance, uint32_t n, uint8_t *trace)
 {
     size_t length;
 
-    chance->old = chance->strays = one_in(chance, 2);
+    choose_layout(chance);
     length = record_trace(chance, n, trace);
-    chance->old = chance->strays = false;
+    leave_layout(chance);
     return length;
 }
 
@@ -352,8 +352,8 @@ size_t make_either(struct chance *chance, enum damage damage, uint8_t *trace,
 {
     size_t length;
 
-    chance->old = chance->strays = one_in(chance, 2);
+    choose_layout(chance);
     length = make_trace(chance, damage, trace, expected);
-    chance->old = chance->strays = false;
+    leave_layout(chance);
     return length;
 }

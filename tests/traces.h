@@ -7,6 +7,7 @@
 #define TRACES_H
 
 #include "chance.h"
+#include "pomurica.h"
 
 #include <stdbool.h>
 #include <stddef.h>
@@ -14,9 +15,9 @@
 
 /* The sizes of records (document 01, No. 11). */
 enum {
-    HEAD_SIZE = 4, END_SIZE = 8,
-    START_SIZE = 188, STEP_SIZE = 204,
-    OLD_START_SIZE = 184, OLD_STEP_SIZE = 200
+    HEAD_SIZE = 4, END_SIZE = POMURICA_END_SIZE,
+    START_SIZE = POMURICA_START_SIZE, STEP_SIZE = POMURICA_STEP_SIZE,
+    OLD_START_SIZE = POMURICA_OLD_START_SIZE, OLD_STEP_SIZE = POMURICA_OLD_STEP_SIZE
 };
 
 /* Those of a layout, and of the block that ends a Start and a Step. */
@@ -32,7 +33,7 @@ static inline uint32_t step_size(bool old)
 
 static inline uint32_t block_size(bool old)
 {
-    return old ? 176 : 180;
+    return old ? POMURICA_OLD_BLOCK_SIZE : POMURICA_BLOCK_SIZE;
 }
 
 static inline const char *layout_name(bool old)
@@ -46,10 +47,15 @@ static inline uint32_t record_place(bool old, uint32_t record)
     return record == 0 ? 0 : start_size(old) + (record - 1) * step_size(old);
 }
 
-/* The layout that a trace goes by: the kind that it opens with. */
+/* The layout that a trace goes by: the kind that it opens with; of fewer bytes than have one, the old. */
 static inline bool is_old(const uint8_t *trace)
 {
-    return trace[2] != 4 || trace[3] != 0;
+    return pomurica_get_word(trace, POMURICA_RECORD_HEAD) >> 16 != POMURICA_KIND_START;
+}
+
+static inline bool is_taken_for_old(const uint8_t *trace, size_t length)
+{
+    return length < HEAD_SIZE || is_old(trace);
 }
 
 /* What is done to an honest trace. */
@@ -86,7 +92,7 @@ enum {
 size_t record_trace(struct chance *chance, uint32_t n, uint8_t *trace);
 size_t record_checks(struct chance *chance, uint32_t n, uint8_t *trace);
 
-/* An honest trace of n Steps, of either layout, with events that it does not know too; behind it the chance is of the new one. */
+/* One of n Steps, of either layout, with events that it does not know too; behind it the chance is of the new one. */
 size_t record_either(struct chance *chance, uint32_t n, uint8_t *trace);
 
 /* A trace of chance, damaged so; gives its length. */

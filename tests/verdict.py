@@ -108,7 +108,8 @@ def try_pieces():
     with tempfile.NamedTemporaryFile() as file:
         file.write(SHORTEST)
         file.flush()
-        expect('a pipe in pieces of one byte', judged_from('dd', 'if=' + file.name, 'bs=1', 'status=none')[0], b'0 196 0\n')
+        expect('a pipe in pieces of one byte',
+               judged_from('dd', 'if=' + file.name, 'bs=1', 'status=none')[0], b'0 196 0\n')
         expect('a slow pipe',
                judged_from('sh', '-c', 'head -c 100 "$0"; sleep 1; tail -c +101 "$0"', file.name)[0], b'0 196 0\n')
     for size in (7, STEP_SIZE - 1, STEP_SIZE + 1):
@@ -126,7 +127,8 @@ def try_lengths():
     for steps in (320, 321, 1000):  # the first is the longest below 65,536 bytes
         trace = long_trace(steps)
         expect(f'an honest trace of {len(trace)} bytes', run(input=trace), line_of(0, len(trace), steps))
-    expect('the longest of the old layout', run(input=long_trace(LONGEST, form=OLD)), line_of(0, length_of(LONGEST, OLD), LONGEST))
+    expect('the longest of the old layout', run(input=long_trace(LONGEST, form=OLD)),
+           line_of(0, length_of(LONGEST, OLD), LONGEST))
     expect('the longest, but for a byte', run(input=long_trace(LONGEST)[:-1]), line_of(8, length_of(LONGEST) - 8, LONGEST))
     expect('the longest, and its last Step wrong', run(input=long_trace(LONGEST, LONGEST)),
            line_of(11, START_SIZE + STEP_SIZE * (LONGEST - 1), LONGEST - 1))

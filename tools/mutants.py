@@ -19,8 +19,8 @@ HUNTING = ['hunt', 'question', 'any_list', 'lists', 'any_recording', 'recordings
            'chance', 'lent', 'traces', 'edge']
 DRIVER = [*(f'tests/{name}.c' for name in HUNTING), *MUTATED]
 COMPILER = ['gcc', '-std=c11', '-O1', '-w', '-Isecond', '-Ihost']
-NAMES = ['step', 'step_in', 'batch', 'check', 'is_due', 'layout_of', 'take_block', 'is_right_step', 'count', 'count_lines',
-         'open', 'feed', 'close', 'record']
+NAMES = ['step', 'step_in', 'batch', 'check', 'is_due', 'layout_of', 'take_block', 'is_right_step', 'count',
+         'count_lines', 'open', 'feed', 'close', 'record']
 RENAMED = [f'-Dsecond_{name}=mutant_{name}' for name in NAMES]  # a mutant has its own names
 # One that lives meets a tenth as much again under the sanitizers: it may have left an array and gone on by luck.
 SANITIZED = ['-fsanitize=address,undefined', '-fno-sanitize-recover=all']
