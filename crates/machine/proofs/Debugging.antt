@@ -9,18 +9,18 @@ use borrow.Author.Tests.{eq-eqb}
 use Rattle.words.specs.Word.{word}
 use Rattle.state.specs.Choice.{if_then_else_, _is_}
 use Rattle.state.specs.Field.{mode-field, HDCR-TDE}
-use Rattle.state.specs.Mode.{HYP}
+use Rattle.state.specs.Mode.{HYP, known}
 use Rattle.state.specs.Number.{DONE}
 use Rattle.state.specs.Place.{BLOCK-SIZE, CPSR, SCR, HCR, HDCR}
 use Rattle.state.specs.State.{secure, nsUser, nsEl1, fault}
-use Rattle.state.proofs.Test.{and-left}
+use Rattle.state.proofs.Test.{and-left, true-is-not-false}
 use Rattle.entry.specs.Code.{PREFETCH-ABORT, STAGE-2}
 use Rattle.entry.specs.Route.{notHere, disabled, toMonitor, toHyp}
 use Rattle.entry.specs.Route as synchronous
 use Rattle.entry.proofs.Debug.{of-guest}
 use Rattle.rules.specs.Event.{badEvent}
 use Rattle.rules.specs.Refusal.{refusal}
-use Rattle.rules.specs.Step.{routedIn, action, answer, after}
+use Rattle.rules.specs.Step.{routedIn, action, doneAction, answerTo, blockAfter, answer, after}
 use Rattle.rules.proofs.Deciding.{fault-clear}
 use Rattle.machine.specs.Claims.{debugAbort, plainAbort, debugTrappedIn, DebugToHyp, AsPlain, target, offset}
 use Rattle.machine.proofs.Leaving.{enters-as-routed}
@@ -31,7 +31,13 @@ module _ (b : List ℕ) where
   module _ (h : debugTrappedIn b ≡ true) where
     -- from there it is not Hyp
     not-hyp : (mode-field (word b CPSR) is HYP) ≡ false
-    not-hyp = ?
+    not-hyp =
+        or-second (secure (word b CPSR) (word b SCR)) (mode-field (word b CPSR) is HYP)
+        (of-guest (word b CPSR) (word b SCR) (and-left _ (HDCR-TDE (word b HDCR)) h))
+      where
+        or-second : (t u : Bool) → (t || u) ≡ false → u ≡ false
+        or-second true u e = absurd (true-is-not-false refl e)
+        or-second false u e = e
 
     as-stage2 : routedIn b PREFETCH-ABORT 4 ≡ STAGE-2
     as-stage2 = rw h refl
@@ -57,5 +63,11 @@ module _ (b : List ℕ) where
 
   -- ---- not trapped
 
+  same-action : debugTrappedIn b ≡ false → action b debugAbort ≡ action b plainAbort
+  unfolding action doneAction refusal known badEvent notHere disabled synchronous.way synchronous.target synchronous.offset
+      synchronous.link toMonitor toHyp
+  same-action h = rw h refl
+
   pub debug-as-plain : debugTrappedIn b ≡ false → AsPlain b
-  debug-as-plain h = ?
+  unfolding answer after
+  debug-as-plain h = record { answers = ap (answerTo b) (same-action h); leaves = ap (blockAfter b) (same-action h) }
