@@ -6,14 +6,14 @@
 // behind it; and of the block after as much is compared as its layout has.
 use judgements::seen_code;
 use machine::step::step_event;
-use rules::event::Event;
-use rules::verdict::Answer;
-use state::number::WRONG_STEP;
-use state::place;
 use records::layout;
 use records::layout::block_size;
 use records::layout::is_old;
 use records::layout::step_size;
+use rules::event::Event;
+use rules::verdict::Answer;
+use state::number::WRONG_STEP;
+use state::place;
 use words::get_word;
 use words::word_at;
 ghost use mathlib.Core.Path.{_≡_};
