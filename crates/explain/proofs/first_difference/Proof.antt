@@ -14,7 +14,7 @@ use Rattle.state.specs.Place.{PLACES}
 use Rattle.words.specs.Word.{word}
 
 abbrev Inv-loop : tie.InvT-loop
-Inv-loop old after block places p₀ p = (p ≤ places) × ((j : ℕ) → j < p → word after j ≡ word block j)
+Inv-loop old after block places p₀ p = ((j : ℕ) → j < p → word after j ≡ word block j) × (p ≤ places)
 
 abbrev μ-loop : tie.MeasureT-loop
 μ-loop old after block places p₀ p = places - p
@@ -43,7 +43,7 @@ turn c = c .before .before .before
 few : (c : tie.At-loop Inv-loop μ-loop) → c .loop .p ≤ PLACES
 few c =
     let sized = c .before in
-    omega (arith, c .loop .inv .0, sized .block-size .ensures, size-few (given sized .args .old))
+    omega (arith, c .loop .inv .1, sized .block-size .ensures, size-few (given sized .args .old))
 
 returns : tie.Need-returns Inv-loop μ-loop
 returns c =
@@ -69,14 +69,14 @@ returns-3 c =
     let due : c .before .get-word2 .result ≡ word (x .block .now) (at .loop .p) = c .before .get-word2 .ensures in
     (λ i. record { part = BLOCK-PART + at .loop .p; found = found i; due = due i })
     ∙ sym
-    (block-differs (x .shown) (x .due) (x .after .now) (x .block .now) (numbers (sized .before) .if1 .left) (sized .before .if2 .left)
-    (parts (layout (x .old))) (at .loop .p) (omega (arith, places-are sized, c .before .before .before .loop-test .taken)) (at .loop .inv .1)
+    (block-differs (x .shown) (x .due) (x .after .now) (x .block .now) (numbers (sized .before) .if1 .left)
+    (sized .before .if2 .left) (parts (layout (x .old))) (at .loop .p) (omega (arith, places-are sized)) (at .loop .inv .0)
     (λ e. c .if3 .taken (found ∙ e ∙ sym due)))
 
 loop-again : tie.Need-loop-again Inv-loop μ-loop
 loop-again c =
     let here = sym (c .before .before .get-word .ensures) ∙ c .if3 .left ∙ c .before .get-word2 .ensures in
-    (search needs, below-more _ _ (turn (c .before) .loop .inv .1) here)
+    (below-more _ _ (turn (c .before) .loop .inv .0) here, search needs)
 
 returns-4 : tie.Need-returns-4 Inv-loop μ-loop
 returns-4 c =
@@ -84,10 +84,10 @@ returns-4 c =
     let sized = at .before in
     let x = given sized .args in
     let alike = parts-alike (x .shown) (x .due) (x .after .now) (x .block .now) (numbers (sized .before) .if1 .left)
-    (sized .before .if2 .left) (at .loop .p) (at .loop .inv .1) in
+    (sized .before .if2 .left) (at .loop .p) (at .loop .inv .0) in
     sym
     (differing-none (partWord (x .shown) (x .after .now)) (partWord (x .due) (x .block .now)) (parts (layout (x .old)))
-    NUMBER-PART (λ j k l. alike j k (omega (arith, places-are sized, c .loop-test .left))))
+    NUMBER-PART (λ j k l. alike j k (omega (arith, places-are sized))))
 
 pub first-difference-spec : {M : Type 1} → statement M
 first-difference-spec =
@@ -98,7 +98,7 @@ first-difference-spec =
     returns
     returns-2
     (λ c κs. search needs)
-    (λ c. (search needs, λ j l. absurd (omega arith)))
+    (λ c. ((λ j l. absurd (omega arith)), search needs))
     (λ c κs. search needs)
     (λ c κs. search needs)
     (λ c. search (needs, few (turn (c .before))))
