@@ -30,7 +30,7 @@ VALUE-PART = 2
 abbrev pub BLOCK-PART : ℕ
 BLOCK-PART = 3
 
--- how many there are (46 in document 01): number, value, and a word for every four bytes of a block
+-- how many there are (46 in the old layout, 47 in the new): number, value, and a word for every four bytes of a block
 abbrev pub parts : Layout → ℕ
 parts L = 2 + L .size / 4
 

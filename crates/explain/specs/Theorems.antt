@@ -1,4 +1,4 @@
--- What is proved of the explanations of a layout, whichever lawful one of whole words it is. Document 01's is layout01.
+-- What is proved of the explanations of a layout, whichever lawful one of whole words it is. Both are; see Either.antt.
 use mathlib.Core.Path.{_≡_}
 use mathlib.Core.List.{List}
 use Prim.Native.Nat.{ℕ, _-_}
