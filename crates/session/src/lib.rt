@@ -47,6 +47,8 @@ ghost use Rattle.records.specs.Session.{
   openedSession,
   comesOld,
   fedSession,
+  narrowed,
+  widened,
   nothingHeld,
   dueSize,
   dueKind,
@@ -547,6 +549,28 @@ fn comes_old(p: Progress, unfinished: &[u8; RECORD_SIZE], bytes: &[u8]) -> bool
     p.stage != NEXT
 }
 
+// The same, where the block and the record have room for either layout: what lies behind those of this one stays.
+fn feed_front(
+    old: bool,
+    p: Progress,
+    block: &mut [u8],
+    unfinished: &mut [u8],
+    bytes: &[u8],
+) -> Progress
+    requires { ⌜ Room false (now block) (now unfinished) ⌝ }
+    ensures { λ q. ⌜ session q (now (block .exit)) (now (unfinished .exit))
+        ≡ widened old (session p (now (block .entry)) (now (unfinished .entry)))
+        (fed (layout old) (narrowed old (session p (now (block .entry)) (now (unfinished .entry)))) (now (bytes .entry))) ⌝ }
+{
+    feed_in(
+        old,
+        p,
+        &mut block[..block_size(old)],
+        &mut unfinished[..step_size(old) as usize],
+        bytes,
+    )
+}
+
 // A run of bytes comes to a session taken apart. What lies behind the block and the record of its layout stays, until a fault is
 // known: then nothing is kept but the numbers.
 pub fn feed(
@@ -559,13 +583,7 @@ pub fn feed(
         ≡ fedSession (session p (now (block .entry)) (now (unfinished .entry))) (now (bytes .entry)) ⌝ }
 {
     let old = comes_old(p, unfinished, bytes);
-    let q = feed_in(
-        old,
-        p,
-        &mut block[..block_size(old)],
-        &mut unfinished[..step_size(old) as usize],
-        bytes,
-    );
+    let q = feed_front(old, p, block, unfinished, bytes);
     if newly(p.fault, q.fault) {
         *block = [0u8; BLOCK_SIZE];
         *unfinished = [0u8; RECORD_SIZE];
