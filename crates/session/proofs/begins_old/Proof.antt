@@ -4,8 +4,8 @@ use mathlib.Core.List.{List, _++_}
 use Prim.Native.Nat.{ℕ, _+_, _≤_}
 use native.Mathlib.Omega.{arith}
 use borrow.Author.Needs.{needs}
-use lib.ListN.{length, take}
-use Rattle.records.specs.Layout.{headSize}
+use lib.ListN.{length, take, length-append, length-take}
+use Rattle.records.specs.Layout.{headSize, newLayout, stepSize}
 use Rattle.records.proofs.Begun.{length-begun, old-short, old-held, old-other, old-kind}
 use Rattle.session.proofs.begins_old.Statement.{statement}
 use Rattle.session.proofs.begins_old.Tie as tie
@@ -17,37 +17,40 @@ start c = c .before .before
 abbrev begun : tie.Else1 → List ℕ
 begun c = let x = start c .args in take (x .held) (x .unfinished .now) ++ x .bytes .now
 
-long : (c : tie.Else1) → let x = start c .args in length (begun c) ≡ x .held + length (x .bytes .now)
-long c =
-    let x = start c .args in
-    let room : length (x .unfinished .now) ≡ 204 = search needs in
-    length-begun (x .unfinished .now) (x .bytes .now) (x .held) (omega (arith, room, c .if1 .left))
-
-whole : (c : tie.Else2) → headSize ≤ length (begun (c .before))
-whole c = omega (arith, long (c .before), c .if2 .left, c .before .if1 .left)
+-- they are a head at least, seen from where the first of them is asked for
+whole : (c : tie.After-begun-byte-arg) → headSize ≤ length (begun (c .before .before))
+whole c =
+    let few = c .before .before in
+    let x = start few .args in
+    let room : length (x .unfinished .now) ≡ stepSize newLayout = search needs in
+    omega
+    (arith, length-begun (x .unfinished .now) (x .bytes .now) (x .held) (omega (arith, few .if1 .left)), c .before .if2 .left)
 
 returns : tie.Need-returns
 returns c =
     let x = c .before .before .before .before .args in
-    let room : length (x .unfinished .now) ≡ 204 = search needs in
+    let room : length (x .unfinished .now) ≡ stepSize newLayout = search needs in
     c .is-old .ensures
-    ∙ old-held (x .unfinished .now) (x .bytes .now) (x .held) (c .before .before .if1 .taken) (omega (arith, room))
+    ∙ old-held (x .unfinished .now) (x .bytes .now) (x .held) (c .before .before .if1 .taken) (omega arith)
 
 returns-2 : tie.Need-returns-2
-returns-2 c = old-short (begun (c .before)) (omega (arith, long (c .before), c .if2 .taken, c .before .if1 .left))
+returns-2 c =
+    let x = start (c .before) .args in
+    let held = take (x .held) (x .unfinished .now) in
+    old-short (begun (c .before))
+    (omega (arith, length-append held (x .bytes .now), length-take (x .held) (x .unfinished .now), c .if2 .taken))
 
 returns-3 : tie.Need-returns-3
 returns-3 c =
-    let at = c .before .before .before in
-    old-other (begun (at .before)) (whole at) (λ e. c .if3 .taken (c .before .begun-byte .ensures ∙ e))
+    let asked = c .before .before in
+    old-other (begun (asked .before .before)) (whole asked) (λ e. c .if3 .taken (c .before .begun-byte .ensures ∙ e))
 
 returns-4 : tie.Need-returns-4
 returns-4 c =
     let at = c .before .before in
-    let kind = at .before in
-    let head = kind .before .before in
+    let asked = at .before .before in
     rw (c .begun-byte2 .ensures)
-    (old-kind (begun (head .before)) (whole head) (sym (kind .begun-byte .ensures) ∙ at .if3 .left))
+    (old-kind (begun (asked .before .before)) (whole asked) (sym (at .before .begun-byte .ensures) ∙ at .if3 .left))
 
 pub begins-old-spec : {M : Type 1} → statement M
 begins-old-spec =
