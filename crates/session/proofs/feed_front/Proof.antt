@@ -1,68 +1,66 @@
+-- The front of the block and of the record are as long as the layout's own, and what lies behind them stays.
+use mathlib.Core.Path.{_≡_, sym, _∙_}
+use Prim.Native.Nat.{_≤_}
+use native.Mathlib.Omega.{arith}
 use borrow.Author.Needs.{needs}
+use lib.ListN.{length, take}
+use lib.Seq.{length-take-le}
+use Rattle.records.specs.Session.{session}
+use Rattle.records.proofs.Lawfuls.{size-few}
+use Rattle.records.proofs.Rooms.{front-fed}
 use Rattle.session.proofs.feed_front.Statement.{statement}
 use Rattle.session.proofs.feed_front.Tie as tie
-use Rattle.session.proofs.feed_front.Reads as reads
-use Rattle.session.proofs.feed_front.Lts as lts
-use Rattle.records.proofs.layout.block_size.Reads as block-size-reads
-use Rattle.records.proofs.layout.step_size.Reads as step-size-reads
-use Rattle.session.proofs.feed_in.Reads as feed-in-reads
 
--- src/lib.rt:568:22
-block-size-requires : tie.Need-block-size-requires
-block-size-requires c κs = search needs
+-- what was handed over, seen from behind the size of the block, and from behind that of the record
+abbrev start : tie.After-block-size → tie.Start
+start c = c .before .before .before .before
 
--- src/lib.rt:568:9
-slice-relend-prefix-feed-in : tie.Need-slice-relend-prefix-feed-in
-slice-relend-prefix-feed-in c = ?
+abbrev handed : tie.After-step-size → tie.Start
+handed c = start (c .before .before)
 
--- src/lib.rt:568:9
-slice-aggregate-feed-in : tie.Need-slice-aggregate-feed-in
-slice-aggregate-feed-in c = ?
+block-fits : (c : tie.After-block-size) → c .block-size .result ≤ length (start c .args .block .now)
+block-fits c = let x = start c in omega (arith, c .block-size .ensures, x .pre .0, size-few (x .args .old))
 
--- src/lib.rt:569:27
-step-size-requires : tie.Need-step-size-requires
-step-size-requires c κs = search needs
+record-fits : (c : tie.After-step-size) → c .step-size .result ≤ length (handed c .args .unfinished .now)
+record-fits c = let x = handed c in omega (arith, c .step-size .ensures, x .pre .1, size-few (x .args .old))
 
--- src/lib.rt:569:27
-cast-feed-in : tie.Need-cast-feed-in
-cast-feed-in c = search needs
+-- so each part is as long as it says
+block-part : (c : tie.After-block-size)
+    → length (take (c .block-size .result) (start c .args .block .now)) ≡ c .block-size .result
+block-part c = length-take-le (c .block-size .result) (start c .args .block .now) (block-fits c)
 
--- src/lib.rt:569:9
-slice-relend-prefix-feed-in-2 : tie.Need-slice-relend-prefix-feed-in-2
-slice-relend-prefix-feed-in-2 c = ?
+record-part : (c : tie.After-step-size)
+    → length (take (c .step-size .result) (handed c .args .unfinished .now)) ≡ c .step-size .result
+record-part c = length-take-le (c .step-size .result) (handed c .args .unfinished .now) (record-fits c)
 
--- src/lib.rt:569:9
-slice-aggregate-feed-in-2 : tie.Need-slice-aggregate-feed-in-2
-slice-aggregate-feed-in-2 c = ?
-
--- src/lib.rt:565:5
 feed-in-requires : tie.Need-feed-in-requires
-feed-in-requires c κs = ?
+feed-in-requires c κs =
+    let at = c .before in
+    let sized = at .before .before in
+    (block-part sized ∙ sized .block-size .ensures, record-part at ∙ at .step-size .ensures)
 
--- src/lib.rt:553:1
-same-length : tie.Need-same-length
-same-length c = search needs
-
--- src/lib.rt:553:1
-same-length-2 : tie.Need-same-length-2
-same-length-2 c = search needs
-
--- src/lib.rt:553:1
 returns : tie.Need-returns
-returns c = ?
+returns c =
+    let fed = c .before .before .before .before in
+    let at = fed .before .before in
+    let x = handed at .args in
+    let last = fed .feed-in .last .1 .1 in
+    front-fed (session (x .p) (x .block .now) (x .unfinished .now)) (x .bytes .now) (x .old)
+    (session (fed .feed-in .result) (last .0) (last .1 .0)) (at .before .before .block-size .result) (at .step-size .result)
+    (at .before .before .block-size .ensures) (at .step-size .ensures) (fed .feed-in .ensures)
 
 pub feed-front-spec : {M : Type 1} → statement M
 feed-front-spec =
     tie.close
     (tie.spec
-    block-size-requires
-    slice-relend-prefix-feed-in
-    slice-aggregate-feed-in
-    step-size-requires
-    cast-feed-in
-    slice-relend-prefix-feed-in-2
-    slice-aggregate-feed-in-2
+    (λ c κs. search needs)
+    block-fits
+    (λ c. sym (block-part (c .before)))
+    (λ c κs. search needs)
+    (λ c. search needs)
+    record-fits
+    (λ c. sym (record-part (c .before)))
     feed-in-requires
-    same-length
-    same-length-2
+    (λ c. search needs)
+    (λ c. search needs)
     returns)
