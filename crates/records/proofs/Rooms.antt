@@ -58,7 +58,9 @@ module _ (s : Session) (r : List ℕ) where
   module _ (old : Bool) (own : old ≡ comesOld (s .progress) (s .unfinished) r) (t : Session) (e : t ≡ front old) where
     fed-is : (if known t then numbersOf t else t) ≡ fedSession s r
     unfolding fedSession
-    fed-is = (λ i. if known (e i) then numbersOf (e i) else e i) ∙ ap (λ (b : Bool). if known (front b) then numbersOf (front b) else front b) own
+    fed-is =
+        (λ i. if known (e i) then numbersOf (e i) else e i)
+        ∙ ap (λ (b : Bool). if known (front b) then numbersOf (front b) else front b) own
 
     pub fed-kept : known t ≡ false → t ≡ fedSession s r
     fed-kept k = sym (ap (λ (b : Bool). if b then numbersOf t else t) k) ∙ fed-is

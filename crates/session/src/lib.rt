@@ -176,13 +176,7 @@ fn clear(bytes: &mut [u8])
 }
 
 // A fault is known: nothing is kept but the numbers.
-fn refuse(
-    old: bool,
-    p: Progress,
-    fault: u32,
-    block: &mut [u8],
-    unfinished: &mut [u8],
-) -> Progress
+fn refuse(old: bool, p: Progress, fault: u32, block: &mut [u8], unfinished: &mut [u8]) -> Progress
     requires { ⌜ Room old (now block) (now unfinished) ⌝ }
     ensures { λ q. ⌜ session q (now (block .exit)) (now (unfinished .exit))
         ≡ faulty (layout old) (session p (now (block .entry)) (now (unfinished .entry))) fault ⌝ }
@@ -271,12 +265,7 @@ fn judge_lying(
 }
 
 // The record due is held whole.
-fn judge_held(
-    old: bool,
-    p: Progress,
-    block: &mut [u8],
-    unfinished: &mut [u8],
-) -> Progress
+fn judge_held(old: bool, p: Progress, block: &mut [u8], unfinished: &mut [u8]) -> Progress
     requires { ⌜ Room old (now block) (now unfinished) ⌝ }
     ensures { λ q. ⌜ session q (now (block .exit)) (now (unfinished .exit))
         ≡ judged (layout old) (session p (now (block .entry)) (now (unfinished .entry))) (now (unfinished .entry)) ⌝ }
@@ -301,13 +290,7 @@ fn judge_new_head(old: bool, before: u32, p: Progress, unfinished: &[u8]) -> u32
 
 // More bytes are held, behind the first so many: those of a head show whether the record is the one due, all of them whether it
 // is right.
-fn look(
-    old: bool,
-    before: u32,
-    p: Progress,
-    block: &mut [u8],
-    unfinished: &mut [u8],
-) -> Progress
+fn look(old: bool, before: u32, p: Progress, block: &mut [u8], unfinished: &mut [u8]) -> Progress
     requires { ⌜ Room old (now block) (now unfinished) ⌝ }
     ensures { λ q. ⌜ session q (now (block .exit)) (now (unfinished .exit))
         ≡ seenFrom (layout old) before (session p (now (block .entry)) (now (unfinished .entry))) ⌝ }
@@ -348,13 +331,7 @@ fn put_run(d: &mut [u8], at: usize, r: &[u8])
 }
 
 // Bytes of a record that is not whole yet, up to its end.
-fn hold(
-    old: bool,
-    p: Progress,
-    r: &[u8],
-    block: &mut [u8],
-    unfinished: &mut [u8],
-) -> Turn
+fn hold(old: bool, p: Progress, r: &[u8], block: &mut [u8], unfinished: &mut [u8]) -> Turn
     requires { ⌜ (0 < length (now r)) × Takes (layout old) p × Room old (now block) (now unfinished) ⌝ }
     ensures { λ t. ⌜ Taken (layout old) (session p (now (block .entry)) (now (unfinished .entry))) (now (r .entry))
         (session (t .progress) (now (block .exit)) (now (unfinished .exit))) (t .taken) ⌝ }
@@ -373,7 +350,8 @@ fn hold(
 // How many Steps that are due lie whole in so many bytes; not more than a trace may have, so that a word counts their bytes.
 fn whole_steps(old: bool, p: Progress, size: usize) -> u32
     requires { ⌜ p .steps < p .count ⌝ }
-    ensures { λ n. ⌜ (n ≤ mostSteps) × (p .steps + n ≤ p .count) × (stepSize (layout old) * n ≤ size) × (stepSize (layout old) ≤ size → 0 < n) ⌝ }
+    ensures { λ n. ⌜ (n ≤ mostSteps) × (p .steps + n ≤ p .count) × (stepSize (layout old) * n ≤ size)
+        × (stepSize (layout old) ≤ size → 0 < n) ⌝ }
 {
     let most = least((p.count - p.steps) as usize, layout::MOST_STEPS as usize);
     least(most, size / (step_size(old) as usize)) as u32
@@ -391,13 +369,7 @@ fn step_on(old: bool, p: Progress, right: u32) -> Progress
 }
 
 // Steps that lie whole in r, one behind the other, until one is wrong; nothing is held.
-fn take_steps(
-    old: bool,
-    p: Progress,
-    r: &[u8],
-    block: &mut [u8],
-    unfinished: &mut [u8],
-) -> Turn
+fn take_steps(old: bool, p: Progress, r: &[u8], block: &mut [u8], unfinished: &mut [u8]) -> Turn
     requires { ⌜ (stepSize (layout old) ≤ length (now r)) × Takes (layout old) p × (p .held ≡ 0)
         × (dueSize (layout old) p ≡ stepSize (layout old)) × (now unfinished ≡ nothingHeld (layout old))
         × (length (now block) ≡ layout old .size) ⌝ }
@@ -429,13 +401,7 @@ fn lies_whole(held: u32, size: u32, length: usize) -> bool
 }
 
 // The first bytes of r, where the record due has room: records that lie whole in it are judged there.
-fn take_due(
-    old: bool,
-    p: Progress,
-    r: &[u8],
-    block: &mut [u8],
-    unfinished: &mut [u8],
-) -> Turn
+fn take_due(old: bool, p: Progress, r: &[u8], block: &mut [u8], unfinished: &mut [u8]) -> Turn
     requires { ⌜ (0 < length (now r)) × Takes (layout old) p × Room old (now block) (now unfinished) ⌝ }
     ensures { λ t. ⌜ Taken (layout old) (session p (now (block .entry)) (now (unfinished .entry))) (now (r .entry))
         (session (t .progress) (now (block .exit)) (now (unfinished .exit))) (t .taken) ⌝ }
@@ -456,13 +422,7 @@ fn take_due(
 
 // The first bytes of r, at least one. No feeding makes a session that holds as many bytes as its record has, or more: they leave
 // such a one as it is.
-fn take(
-    old: bool,
-    p: Progress,
-    r: &[u8],
-    block: &mut [u8],
-    unfinished: &mut [u8],
-) -> Turn
+fn take(old: bool, p: Progress, r: &[u8], block: &mut [u8], unfinished: &mut [u8]) -> Turn
     requires { ⌜ (0 < length (now r)) × Room old (now block) (now unfinished) ⌝ }
     ensures { λ t. ⌜ Taken (layout old) (session p (now (block .entry)) (now (unfinished .entry))) (now (r .entry))
         (session (t .progress) (now (block .exit)) (now (unfinished .exit))) (t .taken) ⌝ }

@@ -1,6 +1,4 @@
 -- A byte stands among those that are held, or behind them.
-use mathlib.Core.Path.{sym, ap, _∙_}
-use native.Mathlib.Omega.{arith}
 use borrow.Author.Needs.{needs}
 use Rattle.records.proofs.Begun.{begun-held, begun-behind}
 use Rattle.session.proofs.begun_byte.Statement.{statement}

@@ -5,7 +5,7 @@ use Prim.Native.Nat.{ℕ, _+_, _-_, _<_, _≤_}
 use borrow.Author.Needs.{needs}
 use native.Mathlib.Omega.{arith}
 use lib.ListN.{length, take}
-use lib.Seq.{length-take-le, length-sets}
+use lib.Seq.{length-take-le}
 use Rattle.records.specs.declared.session.Progress.{Progress}
 use Rattle.records.specs.Layout.{Layout, layout, stepSize, newLayout}
 use Rattle.records.specs.Session.{session, holding, dueSize}
@@ -47,11 +47,15 @@ small c = omega (arith, room c, size-few (start c .args .old))
 part : (c : tie.After-least) → length (take (c .least .result) (start c .args .r .now)) ≡ c .least .result
 part c = length-take-le (c .least .result) (start c .args .r .now) (fits c .1)
 
+-- the choice, seen from behind the bytes that are put
+abbrev chosen : tie.After-put-run → tie.After-least
+chosen c = c .before .before .before
+
 returns : tie.Need-returns
 returns c =
     let looked = c .before .before .before .before in
     let put = looked .before .before .before .before .before in
-    let at = put .before .before .before in
+    let at = chosen put in
     let x = start at .args in
     let f = fits at in
     hold-taken (own at) (x .p) (x .block .now) (x .unfinished .now) (x .r .now) (at .least .result) (start at .pre .1)
@@ -72,8 +76,8 @@ hold-spec =
     (λ c κs. search needs)
     (λ c. sym (part (c .before .before)))
     (λ c κs. let at = c .before .before in omega (arith, room at, part at, start at .pre .2 .1))
-    (λ c. record { fits = omega (arith, small (c .before .before .before .before .before)) })
-    (λ c. record { fits = omega (arith, small (c .before .before .before .before .before)) })
+    (λ c. record { fits = omega (arith, small (chosen (c .before .before))) })
+    (λ c. record { fits = omega (arith, small (chosen (c .before .before))) })
     (λ c κs. search needs)
     (λ c. search needs)
     (λ c. search needs)

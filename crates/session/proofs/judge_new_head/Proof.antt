@@ -7,7 +7,7 @@ use native.Mathlib.Omega.{arith}
 use lib.Dec.{lit<}
 use Rattle.records.specs.Layout.{layout}
 use Rattle.records.specs.Report.{headNumber}
-use Rattle.records.specs.Session.{dueSize, dueKind}
+use Rattle.records.specs.Session.{dueKind}
 use Rattle.records.proofs.Feeding.{due-all, due-most}
 use Rattle.records.proofs.Lawfuls.{lawful}
 use Rattle.session.proofs.judge_new_head.Statement.{statement}

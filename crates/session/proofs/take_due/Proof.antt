@@ -41,6 +41,9 @@ whole c =
 abbrev lying : tie.After-clear → tie.Else1
 lying c = c .before .before
 
+abbrev cleared : tie.After-step-size → tie.After-clear
+cleared c = c .before .before .before
+
 none : (c : tie.After-clear) → c .clear .last .0 ≡ nothingHeld (own (lying c))
 none c = c .clear .ensures ∙ ap (λ (n : ℕ). replicate n 0) (start (lying c) .pre .2 .1)
 
@@ -50,17 +53,16 @@ none-size c = ap length (none c) ∙ length-replicate {A = ℕ} (stepSize (own (
 take-steps-requires : tie.Need-take-steps-requires
 take-steps-requires c κs =
     let same = c .before .before in
-    let cleared = same .before .before .before .before in
-    let at = lying cleared in
+    let at = lying (cleared (same .before)) in
     let x = start at in
     let step : dueSize (own at) (x .args .p) ≡ stepSize (own at) =
     sym (size at) ∙ same .if2 .taken ∙ same .before .step-size .ensures in
-    (omega (arith, whole at .0, step), x .pre .1, whole at .1, step, none cleared, x .pre .2 .0)
+    (omega (arith, whole at .0, step), x .pre .1, whole at .1, step, none (cleared (same .before)), x .pre .2 .0)
 
 returns-2 : tie.Need-returns-2
 returns-2 c =
     let taken = c .before .before .before .before in
-    let at = lying (taken .before .before .before .before .before .before .before) in
+    let at = lying (cleared (taken .before .before .before .before)) in
     let x = start at .args in
     let h = whole at in
     let room : stepSize (own at) ≤ length (nothingHeld (own at)) = omega (arith, length-replicate {A = ℕ} (stepSize (own at)) 0) in
@@ -69,15 +71,15 @@ returns-2 c =
 
 judge-lying-requires : tie.Need-judge-lying-requires
 judge-lying-requires c κs =
-    let cleared = c .before .before .before .before .before .before in
-    let at = lying cleared in
+    let none = cleared (c .before .before .before) in
+    let at = lying none in
     let x = start at in
-    (omega (arith, whole at .0, due-least (own at) (x .args .p)), (x .pre .2 .0, none-size cleared))
+    (omega (arith, whole at .0, due-least (own at) (x .args .p)), (x .pre .2 .0, none-size none))
 
 returns-3 : tie.Need-returns-3
 returns-3 c =
     let judged = c .before .before .before .before in
-    let at = lying (judged .before .before .before .before .before .before .before) in
+    let at = lying (cleared (judged .before .before .before .before)) in
     let x = start at .args in
     let h = whole at in
     let last = judged .judge-lying .last .1 .1 .1 in

@@ -1,6 +1,5 @@
 -- What is said of the Steps is what feeding their bytes makes of the session.
 use mathlib.Core.Path.{_≡_, sym, ap, _∙_, subst}
-use mathlib.Core.List.{List}
 use Prim.Native.Nat.{ℕ, _*_, _<_, _^_}
 use native.Mathlib.Omega.{arith}
 use borrow.Author.Needs.{needs}
@@ -46,12 +45,16 @@ word c = search needs
 held-size : (c : tie.After-judge-steps) → length (start c .args .unfinished .now) ≡ stepSize (own c)
 held-size c = ap length (start c .pre .4) ∙ length-replicate {A = ℕ} (stepSize (own c)) 0
 
+-- the judgement, seen from behind what was counted of it
+abbrev judged : tie.After-step-on → tie.After-judge-steps
+judged c = c .before .before .before
+
 returns : tie.Need-returns
 returns c =
     let refused = c .before .before .before .before in
     let wrong = refused .before .before .before in
     let on = wrong .before .before in
-    let at = on .before .before .before in
+    let at = judged on in
     let x = start at .args in
     let run = at .judge-steps in
     subst (λ (t : Session). Taken (own at) (from at) (x .r .now) t (length (x .r .now)))
@@ -65,7 +68,7 @@ returns-2 : tie.Need-returns-2
 returns-2 c =
     let right = c .before in
     let on = right .before .before in
-    let at = on .before .before .before in
+    let at = judged on in
     let x = start at .args in
     let run = at .judge-steps in
     subst (λ (n : ℕ). Taken (own at) (from at) (x .r .now) (session (on .step-on .result) (run .last .1 .1 .1 .0) (x .unfinished .now)) n)
@@ -82,8 +85,7 @@ take-steps-spec =
     (λ c κs. let x = c .before .before .before in step-due (layout (x .args .old)) (x .args .p) (x .pre .3) .1)
     (λ c κs. search needs)
     (λ c κs. search needs)
-    (λ c κs. let at = c .before .before .before .before .before .before .before in
-    search (needs, start at .pre .5, held-size at))
+    (λ c κs. let at = judged (c .before .before .before .before) in search (needs, start at .pre .5, held-size at))
     (λ c. search needs)
     (λ c. search needs)
     returns
