@@ -2,6 +2,8 @@ pub mod Faults
 pub mod Lawfuls
 pub mod Records
 pub mod Judging
+pub mod Begun
+pub mod Rooms
 pub mod Accepts
 pub mod Outcomes
 pub mod Own

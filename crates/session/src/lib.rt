@@ -47,6 +47,8 @@ ghost use Rattle.records.specs.Session.{
   openedSession,
   comesOld,
   fedSession,
+  narrowed,
+  widened,
   nothingHeld,
   dueSize,
   dueKind,
@@ -348,7 +350,8 @@ fn hold(old: bool, p: Progress, r: &[u8], block: &mut [u8], unfinished: &mut [u8
 // How many Steps that are due lie whole in so many bytes; not more than a trace may have, so that a word counts their bytes.
 fn whole_steps(old: bool, p: Progress, size: usize) -> u32
     requires { ⌜ p .steps < p .count ⌝ }
-    ensures { λ n. ⌜ (n ≤ mostSteps) × (p .steps + n ≤ p .count) × (stepSize (layout old) * n ≤ size) × (stepSize (layout old) ≤ size → 0 < n) ⌝ }
+    ensures { λ n. ⌜ (n ≤ mostSteps) × (p .steps + n ≤ p .count) × (stepSize (layout old) * n ≤ size)
+        × (stepSize (layout old) ≤ size → 0 < n) ⌝ }
 {
     let most = least((p.count - p.steps) as usize, layout::MOST_STEPS as usize);
     least(most, size / (step_size(old) as usize)) as u32
@@ -506,6 +509,28 @@ fn comes_old(p: Progress, unfinished: &[u8; RECORD_SIZE], bytes: &[u8]) -> bool
     p.stage != NEXT
 }
 
+// The same, where the block and the record have room for either layout: what lies behind those of this one stays.
+fn feed_front(
+    old: bool,
+    p: Progress,
+    block: &mut [u8],
+    unfinished: &mut [u8],
+    bytes: &[u8],
+) -> Progress
+    requires { ⌜ Room false (now block) (now unfinished) ⌝ }
+    ensures { λ q. ⌜ session q (now (block .exit)) (now (unfinished .exit))
+        ≡ widened old (session p (now (block .entry)) (now (unfinished .entry)))
+        (fed (layout old) (narrowed old (session p (now (block .entry)) (now (unfinished .entry)))) (now (bytes .entry))) ⌝ }
+{
+    feed_in(
+        old,
+        p,
+        &mut block[..block_size(old)],
+        &mut unfinished[..step_size(old) as usize],
+        bytes,
+    )
+}
+
 // A run of bytes comes to a session taken apart. What lies behind the block and the record of its layout stays, until a fault is
 // known: then nothing is kept but the numbers.
 pub fn feed(
@@ -518,13 +543,7 @@ pub fn feed(
         ≡ fedSession (session p (now (block .entry)) (now (unfinished .entry))) (now (bytes .entry)) ⌝ }
 {
     let old = comes_old(p, unfinished, bytes);
-    let q = feed_in(
-        old,
-        p,
-        &mut block[..block_size(old)],
-        &mut unfinished[..step_size(old) as usize],
-        bytes,
-    );
+    let q = feed_front(old, p, block, unfinished, bytes);
     if newly(p.fault, q.fault) {
         *block = [0u8; BLOCK_SIZE];
         *unfinished = [0u8; RECORD_SIZE];

@@ -3,7 +3,7 @@ use mathlib.Core.Path.{_≡_, ap, _∙_, sym}
 use borrow.Author.Needs.{needs}
 use Prim.Native.Nat.{ℕ, _+_, _%_, _^_}
 use Rattle.records.proofs.Feeding.{advancing-is, due-start, due-step, due-end}
-use Rattle.records.specs.Layout.{layout01}
+use Rattle.records.specs.Layout.{Layout, layout}
 use Rattle.records.specs.Session.{dueSize}
 use Rattle.session.proofs.advance.Statement.{statement}
 use Rattle.session.proofs.advance.Tie as tie
@@ -12,17 +12,20 @@ use Rattle.session.proofs.advance.Tie as tie
 abbrev start : tie.After-wrapping-add-u32 → tie.Start
 start c = c .before .before
 
+abbrev own : tie.After-wrapping-add-u32 → Layout
+own c = layout (start c .args .old)
+
 place : (c : tie.After-wrapping-add-u32)
-    → let p = start c .args .p in c .wrapping-add-u32 .result ≡ (p .place + dueSize layout01 p) % 2 ^ 32
+    → let p = start c .args .p in c .wrapping-add-u32 .result ≡ (p .place + dueSize (own c) p) % 2 ^ 32
 place c =
     c .wrapping-add-u32 .ensures ∙ ap (λ (n : ℕ). (start c .args .p .place + n) % 2 ^ 32) (c .before .due-size .ensures)
 
 returns : tie.Need-returns
 returns c =
-    let sum = c .before .before in
+    let sum = c .before .before .before in
     let p = start sum .args .p in
-    let h = c .if1 .taken in
-    advancing-is layout01 p _ _ _ _ (sym (due-start p _ _ _ h)) (sym (due-start p _ _ _ h)) (place sum)
+    let h = c .before .if1 .taken in
+    advancing-is (own sum) p _ _ _ _ (c .next .ensures ∙ sym (due-start p _ _ _ h)) (sym (due-start p _ _ _ h)) (place sum)
 
 returns-2 : tie.Need-returns-2
 returns-2 c =
@@ -30,7 +33,7 @@ returns-2 c =
     let p = start sum .args .p in
     let h = c .before .before .before .if1 .left in
     let l = c .before .if2 .taken in
-    advancing-is layout01 p _ _ _ _ (sym (due-step p _ _ _ h l)) (sym (due-step p _ _ _ h l)) (place sum)
+    advancing-is (own sum) p _ _ _ _ (sym (due-step p _ _ _ h l)) (sym (due-step p _ _ _ h l)) (place sum)
 
 returns-3 : tie.Need-returns-3
 returns-3 c =
@@ -38,12 +41,13 @@ returns-3 c =
     let p = start sum .args .p in
     let h = c .before .before .if1 .left in
     let l = c .if2 .left in
-    advancing-is layout01 p _ _ _ _ (sym (due-end p _ _ _ h l)) (sym (due-end p _ _ _ h l)) (place sum)
+    advancing-is (own sum) p _ _ _ _ (sym (due-end p _ _ _ h l)) (sym (due-end p _ _ _ h l)) (place sum)
 
 pub advance-spec : {M : Type 1} → statement M
 advance-spec =
     tie.close
     (tie.spec
+    (λ c κs. search needs)
     (λ c κs. search needs)
     (λ c κs. search needs)
     returns

@@ -1,31 +1,25 @@
+-- As many zeros as there are bytes are copied over them.
+use mathlib.Core.Path.{sym}
+use Prim.Native.Nat.{ℕ}
+use native.Mathlib.Omega.{arith}
 use borrow.Author.Needs.{needs}
+use Rattle.records.specs.Layout.{newLayout, stepSize}
+use Rattle.records.proofs.Rooms.{length-zeros, cleared}
 use Rattle.session.proofs.clear.Statement.{statement}
 use Rattle.session.proofs.clear.Tie as tie
-use Rattle.session.proofs.clear.Reads as reads
-use Rattle.session.proofs.clear.Lts as lts
-use Rattle.bytes.proofs.copy.Reads as copy-reads
 
--- src/session.rt:200:17
-array-share-prefix-nothing : tie.Need-array-share-prefix-nothing
-array-share-prefix-nothing c = search needs
-
--- src/session.rt:200:17
-slice-aggregate-copy : tie.Need-slice-aggregate-copy
-slice-aggregate-copy c = ?
-
--- src/session.rt:200:5
-copy-requires : tie.Need-copy-requires
-copy-requires c κs = ?
-
--- src/session.rt:195:1
-same-length : tie.Need-same-length
-same-length c = search needs
-
--- src/session.rt:195:1
-returns : tie.Need-returns
-returns c = ?
+-- so many zeros there are to copy from
+abbrev most : ℕ
+most = stepSize newLayout
 
 pub clear-spec : {M : Type 1} → statement M
 clear-spec =
     tie.close
-    (tie.spec array-share-prefix-nothing slice-aggregate-copy copy-requires same-length returns)
+    (tie.spec
+    (λ c. search needs)
+    (λ c. let x = c .before .before in sym (length-zeros most (x .args .bytes .now) (x .pre)))
+    (λ c κs. let x = c .before .before .before in omega (arith, length-zeros most (x .args .bytes .now) (x .pre)))
+    (λ c. search needs)
+    (λ c. let at = c .before .before in
+    let x = at .before .before .before .before in
+    cleared most (x .args .bytes .now) (x .pre) _ (at .copy .ensures .1)))

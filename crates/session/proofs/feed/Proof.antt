@@ -1,50 +1,41 @@
--- Each turn takes some bytes; what they and the rest make of the session is what all of them do.
-use mathlib.Core.Path.{sym}
-use Prim.Native.Nat.{_-_}
+-- The run comes in its own layout; with a fault that becomes known all is forgotten but the numbers.
+use mathlib.Core.Path.{_≡_, sym, _∙_}
+use mathlib.Core.Bool.{Bool}
 use borrow.Author.Needs.{needs}
-use lib.ListN.{length, drop}
-use Rattle.records.specs.Layout.{layout01}
-use Rattle.records.specs.Session.{session}
-use Rattle.records.specs.Fed.{Taken}
-use Rattle.records.proofs.Judging.{rest-is}
-use Rattle.records.proofs.Taking.{Fed, fed-none, fed-more, fed-all}
+use Rattle.records.specs.declared.session.Session.{Session}
+use Rattle.records.specs.Session.{session, comesOld}
+use Rattle.records.proofs.Rooms.{fed-kept, fed-cleared}
 use Rattle.session.proofs.feed.Statement.{statement}
 use Rattle.session.proofs.feed.Tie as tie
 
-abbrev Inv-loop : tie.InvT-loop
-Inv-loop block₀ unfinished₀ bytes q₀ at₀ block unfinished q at =
-    Fed layout01 (session q₀ block₀ unfinished₀) bytes (session q block unfinished) at
+-- what was handed over, the layout of the run and the session that it leaves, seen from behind it
+abbrev start : tie.After-feed-front → tie.Start
+start c = c .before .before .before .before .before .before
 
-abbrev μ-loop : tie.MeasureT-loop
-μ-loop block₀ unfinished₀ bytes q₀ at₀ block unfinished q at = length bytes - at
+abbrev handed : tie.After-feed-front → Session
+handed c = let x = start c .args in session (x .p) (x .block .now) (x .unfinished .now)
 
--- what was handed over, seen from the loop; and the turn, seen from behind the bytes that it takes
-abbrev start : tie.At-loop Inv-loop μ-loop → tie.Start Inv-loop μ-loop
-start c = c .before .before
+abbrev old : tie.After-feed-front → Bool
+old c = c .before .before .before .comes-old .result
 
-abbrev turn : tie.After-take Inv-loop μ-loop → tie.In-loop Inv-loop μ-loop
-turn c = c .before .before .before .before
+own : (c : tie.After-feed-front) → let x = start c .args in old c ≡ comesOld (x .p) (x .unfinished .now) (x .bytes .now)
+own c = c .before .before .before .comes-old .ensures
 
-taken : (c : tie.After-take Inv-loop μ-loop)
-    → let at = turn c .before in
-    Taken layout01 (session (at .loop .q) (at .loop .block) (at .loop .unfinished))
-    (drop (at .loop .at) (start at .args .bytes .now))
-    (session (c .take .result .progress) (c .take .last .1 .1 .0) (c .take .last .1 .1 .1 .0)) (c .take .result .taken)
-taken c =
-    let at = turn c .before in rw (rest-is (start at .args .bytes .now) (at .loop .at)) at (c .take .ensures)
+abbrev left : tie.After-feed-front → Session
+left c = let last = c .feed-front .last .1 .1 in session (c .feed-front .result) (last .0) (last .1 .0)
+
+returns : tie.Need-returns
+returns c =
+    let known = c .before .before in
+    let at = known .before .before in
+    fed-cleared (handed at) (start at .args .bytes .now) (old at) (own at) (left at) (at .feed-front .ensures)
+    (sym (known .before .newly .ensures) ∙ known .if1 .taken)
+
+returns-2 : tie.Need-returns-2
+returns-2 c =
+    let at = c .before .before in
+    fed-kept (handed at) (start at .args .bytes .now) (old at) (own at) (left at) (at .feed-front .ensures)
+    (sym (c .before .newly .ensures) ∙ c .if1 .left)
 
 pub feed-spec : {M : Type 1} → statement M
-feed-spec =
-    tie.close
-    (tie.spec
-    Inv-loop
-    μ-loop
-    (λ c. fed-none layout01 _ _)
-    (λ c. search needs)
-    (λ c. search needs)
-    (λ c. search needs)
-    (λ c κs. search needs)
-    (λ c. search needs)
-    (λ c. search needs)
-    (λ c. let step = c .before .before in fed-more layout01 _ _ _ _ _ _ (turn step .before .loop .inv) (taken step))
-    (λ c. sym (fed-all layout01 _ _ _ _ (c .before .loop .inv) (c .loop-test .left))))
+feed-spec = tie.close (tie.spec (λ c κs. search needs) (λ c κs. search needs) (λ c κs. search needs) returns returns-2)

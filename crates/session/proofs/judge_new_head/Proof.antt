@@ -5,19 +5,26 @@ use borrow.Author.Needs.{needs}
 use borrow.Author.Tests.{le-leb, lt-leb, lt-ltb, le-ltb}
 use native.Mathlib.Omega.{arith}
 use lib.Dec.{lit<}
-use Rattle.records.specs.Layout.{layout01}
+use Rattle.records.specs.Layout.{layout}
 use Rattle.records.specs.Report.{headNumber}
-use Rattle.records.specs.Session.{dueSize, dueKind}
-use Rattle.records.proofs.Feeding.{due-all}
+use Rattle.records.specs.Session.{dueKind}
+use Rattle.records.proofs.Feeding.{due-all, due-most}
+use Rattle.records.proofs.Lawfuls.{lawful}
 use Rattle.session.proofs.judge_new_head.Statement.{statement}
 use Rattle.session.proofs.judge_new_head.Tie as tie
 
+-- what was handed over, seen from where the head has just come
+abbrev start : tie.Else2 → tie.Start
+start c = c .before .before .before .before
+
 judge-head-requires : tie.Need-judge-head-requires
 judge-head-requires c κs =
-    let p = c .before .before .before .before .before .before .args .p in
-    let size : dueSize layout01 p < 2 ^ 16 = due-all (λ (n : ℕ). n < 2 ^ 16) p _ _ _ (lit< tt) (lit< tt) (lit< tt) in
-    let kind : dueKind layout01 p < 2 ^ 16 = due-all (λ (n : ℕ). n < 2 ^ 16) p _ _ _ (lit< tt) (lit< tt) (lit< tt) in
-    (omega (arith, size, c .before .due-size .ensures), omega (arith, kind, c .due-kind .ensures))
+    let x = start (c .before .before) .args in
+    let law = lawful (x .old) in
+    let own = layout (x .old) in
+    let kind : dueKind own (x .p) < 2 ^ 16 =
+    due-all (λ (n : ℕ). n < 2 ^ 16) (x .p) _ _ _ (law .start-kind-fits) (law .step-kind-fits) (lit< tt) in
+    (omega (arith, due-most own (x .p), law .step-fits, c .before .due-size .ensures), omega (arith, kind, c .due-kind .ensures))
 
 returns-3 : tie.Need-returns-3
 returns-3 c =
@@ -25,9 +32,8 @@ returns-3 c =
     let whole = sized .before in
     let size = sized .due-size .ensures in
     let kind = c .before .due-kind .ensures in
-    let x = whole .before .before .before .before .args in
     c .judge-head .ensures
-    ∙ (λ i. headNumber (size i) (kind i) (x .unfinished .now))
+    ∙ (λ i. headNumber (size i) (kind i) (start whole .args .unfinished .now))
     ∙ sym (simp (lt-leb _ _ (whole .before .before .if1 .left), le-ltb _ _ (whole .if2 .left)))
 
 pub judge-new-head-spec : {M : Type 1} → statement M

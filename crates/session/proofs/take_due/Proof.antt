@@ -1,67 +1,93 @@
 -- A record that is not whole yet is held; one that lies whole in the run is judged there, whatever was held before.
-use mathlib.Core.Path.{_≡_, sym, _∙_, subst}
+use mathlib.Core.Path.{_≡_, sym, ap, _∙_, subst}
 use Prim.Native.Nat.{ℕ, _≤_}
 use borrow.Author.Needs.{needs}
 use borrow.Author.Tests.{not-false, leb-true, eqb-true}
 use native.Mathlib.Omega.{arith}
-use lib.ListN.{length}
+use lib.ListN.{length, replicate, length-replicate}
 use lib.Dec.{eqb, leb}
-use Rattle.records.specs.Layout.{layout01, stepSize}
+use Rattle.records.specs.Layout.{Layout, layout, stepSize}
 use Rattle.records.specs.Session.{session, dueSize, nothingHeld}
 use Rattle.records.specs.Fed.{Taken}
 use Rattle.records.proofs.Feeding.{both, due-least}
+use Rattle.records.proofs.Lawfuls.{size-few}
 use Rattle.records.proofs.Taking.{judged-anew, taken-anew, record-taken}
 use Rattle.session.proofs.take_due.Statement.{statement}
 use Rattle.session.proofs.take_due.Tie as tie
 
--- what was handed over, seen from behind the forgetting
-abbrev start : tie.After-forget → tie.Start
+-- what was handed over, seen from where the record due lies whole in the run
+abbrev start : tie.Else1 → tie.Start
 start c = c .before .before .before .before .before .before
 
--- the record due is there whole, and nothing of it was held
-whole : (c : tie.After-forget)
+abbrev own : tie.Else1 → Layout
+own c = layout (start c .args .old)
+
+size : (c : tie.Else1) → c .before .before .due-size .result ≡ dueSize (own c) (start c .args .p)
+size c = c .before .before .due-size .ensures
+
+-- it is there whole, and nothing of it was held
+whole : (c : tie.Else1)
     → let x = start c .args in
-    (dueSize layout01 (x .p) ≤ length (x .r .now)) × (x .p .held ≡ 0) × (stepSize layout01 ≤ length (x .unfinished .now))
+    (dueSize (own c) (x .p) ≤ length (x .r .now)) × (x .p .held ≡ 0) × (stepSize (own c) ≤ length (x .unfinished .now))
 whole c =
-    let lies = c .before .before .before in
-    let size = lies .before .due-size in
-    let x = start c .args in
-    let t = both (eqb (x .p .held) 0) (leb (size .result) (length (x .r .now)))
-    (sym (lies .lies-whole .ensures) ∙ not-false _ (c .before .before .if1 .left)) in
-    let fits = leb-true (size .result) (length (x .r .now)) (t .1) in
-    (omega (arith, size .ensures, fits), eqb-true (x .p .held) 0 (t .0), omega (arith, c .forget .ensures .1))
+    let x = start c in
+    let due = c .before .before .due-size .result in
+    let t = both (eqb (x .args .p .held) 0) (leb due (length (x .args .r .now)))
+    (sym (c .before .lies-whole .ensures) ∙ not-false _ (c .if1 .left)) in
+    let fits = leb-true due (length (x .args .r .now)) (t .1) in
+    (omega (arith, size c, fits), eqb-true (x .args .p .held) 0 (t .0), omega (arith, x .pre .2 .1))
 
-returns-2 : tie.Need-returns-2
-returns-2 c =
-    let at = c .before .before .before .before in
-    let x = start at .args in
-    let h = whole at in
-    taken-anew layout01 (x .p) (x .block .now) (nothingHeld layout01) (x .unfinished .now) (x .r .now) (start at .pre .1)
-    (h .1) (omega arith) (h .2) (h .0) _ _ (c .take-steps .ensures)
+-- the same, and that nothing is held, seen from behind the clearing
+abbrev lying : tie.After-clear → tie.Else1
+lying c = c .before .before
 
-judge-lying-requires : tie.Need-judge-lying-requires
-judge-lying-requires c κs =
-    let at = c .before .before .before in omega (arith, whole at .0, due-least layout01 (start at .args .p))
+abbrev cleared : tie.After-step-size → tie.After-clear
+cleared c = c .before .before .before
 
-returns-3 : tie.Need-returns-3
-returns-3 c =
-    let at = c .before .before .before .before in
-    let x = start at .args in
-    let h = whole at in
-    let left = session (c .judge-lying .result) (c .judge-lying .last .1 .1 .0) (c .judge-lying .last .1 .1 .1 .0) in
-    subst (λ (n : ℕ). Taken layout01 (session (x .p) (x .block .now) (x .unfinished .now)) (x .r .now) left n)
-    (sym (at .before .before .before .before .due-size .ensures))
-    (record-taken layout01 (x .p) (x .block .now) (x .unfinished .now) (x .r .now) (start at .pre .1) (h .1) (h .2) (h .0) _
-    (c .judge-lying .ensures ∙ judged-anew layout01 (x .p) (x .block .now) _ (x .unfinished .now) (x .r .now)))
+none : (c : tie.After-clear) → c .clear .last .0 ≡ nothingHeld (own (lying c))
+none c = c .clear .ensures ∙ ap (λ (n : ℕ). replicate n 0) (start (lying c) .pre .2 .1)
+
+none-size : (c : tie.After-clear) → length (c .clear .last .0) ≡ stepSize (own (lying c))
+none-size c = ap length (none c) ∙ length-replicate {A = ℕ} (stepSize (own (lying c))) 0
 
 take-steps-requires : tie.Need-take-steps-requires
 take-steps-requires c κs =
-    let at = c .before .before .before in
+    let same = c .before .before in
+    let at = lying (cleared (same .before)) in
     let x = start at in
+    let step : dueSize (own at) (x .args .p) ≡ stepSize (own at) =
+    sym (size at) ∙ same .if2 .taken ∙ same .before .step-size .ensures in
+    (omega (arith, whole at .0, step), x .pre .1, whole at .1, step, none (cleared (same .before)), x .pre .2 .0)
+
+returns-2 : tie.Need-returns-2
+returns-2 c =
+    let taken = c .before .before .before .before in
+    let at = lying (cleared (taken .before .before .before .before)) in
+    let x = start at .args in
     let h = whole at in
-    let size = at .before .before .before .before .due-size .ensures in
-    let step : dueSize layout01 (x .args .p) ≡ 200 = sym size ∙ c .before .before .if2 .taken in
-    (omega (arith, h .0, step), x .pre .1, h .1, step, at .forget .ensures .0)
+    let room : stepSize (own at) ≤ length (nothingHeld (own at)) = omega (arith, length-replicate {A = ℕ} (stepSize (own at)) 0) in
+    taken-anew (own at) (x .p) (x .block .now) (nothingHeld (own at)) (x .unfinished .now) (x .r .now) (start at .pre .1)
+    (h .1) room (h .2) (h .0) _ _ (taken .take-steps .ensures)
+
+judge-lying-requires : tie.Need-judge-lying-requires
+judge-lying-requires c κs =
+    let none = cleared (c .before .before .before) in
+    let at = lying none in
+    let x = start at in
+    (omega (arith, whole at .0, due-least (own at) (x .args .p)), (x .pre .2 .0, none-size none))
+
+returns-3 : tie.Need-returns-3
+returns-3 c =
+    let judged = c .before .before .before .before in
+    let at = lying (cleared (judged .before .before .before .before)) in
+    let x = start at .args in
+    let h = whole at in
+    let last = judged .judge-lying .last .1 .1 .1 in
+    let left = session (judged .judge-lying .result) (last .0) (last .1 .0) in
+    subst (λ (n : ℕ). Taken (own at) (session (x .p) (x .block .now) (x .unfinished .now)) (x .r .now) left n)
+    (sym (size at))
+    (record-taken (own at) (x .p) (x .block .now) (x .unfinished .now) (x .r .now) (start at .pre .1) (h .1) (h .2) (h .0) _
+    (judged .judge-lying .ensures ∙ judged-anew (own at) (x .p) (x .block .now) _ (x .unfinished .now) (x .r .now)))
 
 pub take-due-spec : {M : Type 1} → statement M
 take-due-spec =
@@ -71,9 +97,16 @@ take-due-spec =
     (λ c κs. search needs)
     (λ c κs. search needs)
     (λ c. search needs)
+    (λ c. search needs)
+    (λ c. search needs)
+    (λ c κs. let x = start (c .before) in omega (arith, x .pre .2 .1, size-few (x .args .old)))
     (λ c κs. search needs)
     take-steps-requires
+    (λ c. search needs)
+    (λ c. search needs)
     returns-2
     judge-lying-requires
+    (λ c. search needs)
+    (λ c. search needs)
     (λ c. search needs)
     returns-3)

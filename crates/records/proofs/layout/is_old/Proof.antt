@@ -1,15 +1,16 @@
 -- The upper half of the first word is the kind.
-use mathlib.Core.Path.{_≡_, sym, ap, _∙_}
-use mathlib.Core.Bool.{Bool, true, not, _&&_}
+use mathlib.Core.Path.{_≡_}
+use mathlib.Core.Bool.{not}
 use mathlib.Core.List.{List}
-use Prim.Native.Nat.{ℕ, _/_, _<_, _≤_}
+use Prim.Native.Nat.{ℕ, _/_, _≤_}
 use native.Mathlib.Omega.{arith}
 use borrow.Author.Needs.{needs}
-use borrow.Author.Tests.{le-leb, lt-leb}
+use borrow.Author.Tests.{le-leb}
 use lib.ListN.{length}
 use Rattle.state.specs.Choice.{_is_}
 use Rattle.words.specs.Word.{half, spelt, Bytes}
 use Rattle.records.specs.Layout.{headSize, kindAt, newLayout, isOld}
+use Rattle.records.proofs.Begun.{old-short}
 use Rattle.records.proofs.layout.is_old.Statement.{statement}
 use Rattle.records.proofs.layout.is_old.Tie as tie
 
@@ -22,14 +23,10 @@ whole : (r : List ℕ) → Bytes r → headSize ≤ length r → {w : ℕ} → w
 unfolding isOld
 whole r by l e = rw (le-leb headSize (length r) l, e, kind-is r by)
 
-short : (r : List ℕ) → length r < headSize → true ≡ isOld r
-unfolding isOld
-short r l = rw (lt-leb headSize (length r) l)
-
 pub is-old-spec : {M : Type 1} → statement M
 is-old-spec =
     tie.close
     (tie.spec
-    (λ c. short _ (c .if1 .taken))
+    (λ c. old-short _ (c .if1 .taken))
     (λ c κs. search needs)
     (λ c. whole _ (λ i. c .before .before .shared-slice-known .given i .fits) (c .before .if1 .left) (c .word-at .ensures)))
