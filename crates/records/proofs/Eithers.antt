@@ -21,7 +21,8 @@ use Rattle.records.specs.Claims.{LeavesUnread, ReadsStartAndEndOnly, Wal
 use Rattle.records.specs.Theorems.{OfPublished, OfChanged}
 use Rattle.records.specs.Either.{reportOf, PublishedInOne, MeetsBoth, RefusesTraces, AcceptsAll, OfBoth}
 use Rattle.records.proofs.Faults.{below, differ}
-use Rattle.records.proofs.Heads.{old-by, few-old, more-old, cut-old, start-tells, published-tells, few-short}
+use Rattle.records.proofs.Heads.{old-by, cut-old, start-tells, published-tells, few-short}
+use Rattle.records.proofs.Begun.{old-front}
 use Rattle.records.proofs.Records.{length-published}
 use Rattle.records.proofs.Lawfuls.{lawful}
 use Rattle.records.proofs.Checkers.{bytes-published}
@@ -82,7 +83,7 @@ no-trace-begins s by m t p =
     omega (arith, length-take to s, judged-head s (reportOf s), says .judged-within m) in
     let same : p .old ≡ isOld s =
     sym (published-tells (p .old) (take to s ++ t) (p .of))
-    ∙ more-old (take to s) t long
+    ∙ old-front (take to s) t long
     ∙ cut-old s to (judged-head s (reportOf s)) in
     says .no-trace-begins m t (subst (λ o. Published (layout o) (take to s ++ t)) same (p .of))
 
@@ -117,7 +118,7 @@ module _ (old : Bool) (b : List ℕ) (h : length b ≡ layout old .size) where
       let has = published-has es in
       record {
         published-accepted = by-layout old s has ∙ of .published-accepted;
-        more-refused = λ t l. by-layout old (s ++ t) (more-old s t (omega (arith, long)) ∙ has) ∙ of .more-refused t l;
+        more-refused = λ t l. by-layout old (s ++ t) (old-front s t (omega (arith, long)) ∙ has) ∙ of .more-refused t l;
         cut-refused = λ l place k at.
             cut-same s l ∙ ap (λ (o : Bool). report (layout o) (take l s)) has ∙ of .cut-refused l place k at;
         cut-falls = of .cut-falls;

@@ -3,20 +3,20 @@
 use mathlib.Core.Path.{_≡_, refl, sym, ap, _∙_}
 use mathlib.Core.Bool.{Bool, true, false, not, _&&_}
 use mathlib.Core.Logic.{_⊎_, inl, inr}
-use mathlib.Core.List.{List, _++_, append-assoc}
-use Prim.Native.Nat.{ℕ, _+_, _<_, _≤_}
+use mathlib.Core.List.{List, _++_}
+use Prim.Native.Nat.{ℕ, _<_, _≤_}
 use native.Mathlib.Omega.{arith}
-use lib.ListN.{length, take, drop, getD, length-append, length-take, take-append-drop}
+use lib.ListN.{length, take, drop, length-take, take-append-drop}
 use lib.Seq.{take-all}
-use lib.Dec.{eqb, leb}
-use borrow.Author.Tests.{le-leb, lt-leb}
+use lib.Dec.{leb}
+use borrow.Author.Tests.{le-leb}
 use Rattle.words.specs.Word.{half}
-use Rattle.words.proofs.Spell.{half-front}
 use Rattle.state.specs.Choice.{_is_}
 use Rattle.records.specs.Layout.{Layout, layout, newLayout, isOld, headSize, startSize, kindAt}
 use Rattle.records.specs.Published.{startRecord, stepRecords, endRecord, published, Published}
 use Rattle.records.specs.Report.{headNumber, startNumber, report, SHORT}
-use Rattle.records.proofs.Faults.{head-whole, head-short, below, refused-at, else-first}
+use Rattle.records.proofs.Faults.{head-whole, head-short, below}
+use Rattle.records.proofs.Begun.{old-front}
 use Rattle.records.proofs.Lawfuls.{lawful}
 use Rattle.records.proofs.Records.{start-head}
 
@@ -25,23 +25,14 @@ pub old-by : (s t : List ℕ) → leb headSize (length s) ≡ leb headSize (leng
 unfolding isOld
 old-by s t l h = λ i. not (l i && h i is newLayout .startKind)
 
-pub few-old : (s : List ℕ) → length s < headSize → isOld s ≡ true
-unfolding isOld
-few-old s h = simp (lt-leb headSize (length s) h)
-
--- with more bytes, and cut behind the head
-pub more-old : (s t : List ℕ) → headSize ≤ length s → isOld (s ++ t) ≡ isOld s
-more-old s t h =
-    old-by (s ++ t) s (le-leb headSize (length (s ++ t)) (omega (arith, length-append s t)) ∙ sym (le-leb headSize (length s) h))
-    (half-front s t kindAt (omega arith))
-
+-- cut behind the head
 pub cut-old : (s : List ℕ) (k : ℕ) → headSize ≤ k → isOld (take k s) ≡ isOld s
 cut-old s k h = go (below (length s) headSize)
   where
     go : (length s < headSize) ⊎ (headSize ≤ length s) → isOld (take k s) ≡ isOld s
     go (inl l) = ap isOld (take-all k s (omega arith))
     go (inr l) =
-        sym (more-old (take k s) (drop k s) (omega (arith, length-take k s))) ∙ ap isOld (take-append-drop k s)
+        sym (old-front (take k s) (drop k s) (omega (arith, length-take k s))) ∙ ap isOld (take-append-drop k s)
 
 -- a right head of a Start is that of its layout
 pub head-tells : (old : Bool) (s : List ℕ) → headNumber (startSize (layout old)) (layout old .startKind) s ≡ 0 → isOld s ≡ old

@@ -25,7 +25,7 @@ use Rattle.records.specs.Session.{feedNumber, closing}
 use Rattle.records.specs.Arrival.{joined, knownNumber, ArrivalOfBoth}
 use Rattle.records.proofs.Faults.{below, zero-or-not}
 use Rattle.records.proofs.Lawfuls.{lawful}
-use Rattle.records.proofs.Heads.{few-old, more-old, cut-old, few-short}
+use Rattle.records.proofs.Begun.{old-short, old-front}
 use Rattle.records.proofs.Feeding.{dead, dead-closed, alive, few, fed-cut, fed-dead, fed-over, fed-nothing}
 use Rattle.records.proofs.Arriving.{opened-ready, ends}
 use Rattle.records.proofs.Standing.{Form, Stands, waiting, going, past, broken, stands}
@@ -210,7 +210,7 @@ held-all old s l =
 module _ (s r : List ℕ) where
   -- once a head has come the layout stays
   settled : headSize ≤ length s → fedSession (arrived s) r ≡ inLayout (isOld s) (s ++ r) → fedSession (arrived s) r ≡ arrived (s ++ r)
-  settled h e = e ∙ ap (λ (o : Bool). inLayout o (s ++ r)) (sym (more-old s r h))
+  settled h e = e ∙ ap (λ (o : Bool). inLayout o (s ++ r)) (sym (old-front s r h))
 
   pub joins : fedSession (arrived s) r ≡ arrived (s ++ r)
   joins = go (stood (isOld s) s .form)
@@ -232,7 +232,7 @@ module _ (s r : List ℕ) where
               let same = in-either (isOld (s ++ r)) s h in
               ap (λ (u : Session). fedSession u r) same
               ∙ goes (isOld (s ++ r)) s r (ap (λ (u : Session). comesOld (u .progress) (u .unfinished) r) (sym same) ∙ found)
-          by-head (inr h) = settled h (goes (isOld s) s r (found ∙ more-old s r h))
+          by-head (inr h) = settled h (goes (isOld s) s r (found ∙ old-front s r h))
       go (going h c f g) =
           settled h (goes (isOld s) s r (ap (λ n. comesOld (staged n) (arrived s .unfinished) r) g ∙ tells (isOld s)))
         where
@@ -277,7 +277,7 @@ module _ (s r : List ℕ) where
 
 none-come : arrived [] ≡ openedSession
 none-come =
-    ap (λ (o : Bool). inLayout o []) (few-old [] (lit< tt))
+    ap (λ (o : Bool). inLayout o []) (sym (old-short [] (lit< tt)))
     ∙ ap (widened true openedSession) (fed-nothing (layout true) (opened (layout true)))
     ∙ cleared true (opened (layout true)) refl refl
 
