@@ -32,7 +32,7 @@ pub extern "C" fn pomurica_count_lines(counts: &[u8], lines: &mut [u8], answer: 
     if answer.len() != ANSWER_SIZE {
         return BAD_SIZE;
     }
-    let written = counts::lines::put_lines(counts, lines);
+    let written = count_lines::put_lines(counts, lines);
     if written.number == BAD_SIZE {
         return BAD_SIZE;
     }

@@ -10,8 +10,8 @@ use lib.Seq.{drop-cons, getD-set-same}
 use lib.Dec.{ltb}
 use borrow.Author.Tests.{lt-ltb, le-ltb, ltb-true, ltb-false}
 use Rattle.state.specs.Choice.{if_then_else_}
-use Rattle.counts.specs.Lines.{ZERO, digits, decimal}
-use Rattle.counts.specs.Parts.{Pushed}
+use Rattle.count_lines.specs.Lines.{ZERO, digits, decimal}
+use Rattle.count_lines.specs.Parts.{Pushed}
 
 -- ---- one byte, and one text after another
 

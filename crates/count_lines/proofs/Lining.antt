@@ -13,11 +13,11 @@ use borrow.Author.Tests.{eq-eqb, ne-eqb, lt-ltb, le-ltb}
 use Rattle.words.specs.Word.{word}
 use Rattle.state.specs.Choice.{if_then_else_}
 use Rattle.state.specs.Number.{DONE, BAD-SIZE, NO-ROOM}
 use Rattle.counts.specs.Counts.{GROUP-SIZE, WORDS, COUNTS-SIZE}
-use Rattle.counts.specs.Lines.{SPACE, LINE-END, decimal, field, line, lineOf, linesFrom, lines, linesReturn, linesLeave}
-use Rattle.counts.specs.Parts.{TEXT-SIZE, Pushed}
-use Rattle.counts.specs.declared.lines.Written.{Written}
-use Rattle.counts.proofs.Pushing.{pushed-none, pushed-then, digits-few, decimal-one, decimal-two}
+use Rattle.count_lines.specs.Lines.{SPACE, LINE-END, decimal, field, line, lineOf, linesFrom, lines, linesReturn, linesLeave}
+use Rattle.count_lines.specs.Parts.{TEXT-SIZE, Pushed}
+use Rattle.count_lines.specs.declared.Written.{Written}
+use Rattle.count_lines.proofs.Pushing.{pushed-none, pushed-then, digits-few, decimal-one, decimal-two}
 
 -- ---- how long they are
 

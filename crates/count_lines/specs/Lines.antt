@@ -8,8 +8,8 @@ use lib.Dec.{ltb}
 use Rattle.words.specs.Word.{word}
 use Rattle.state.specs.Choice.{if_then_else_, _is_}
 use Rattle.state.specs.Number.{DONE, BAD-SIZE, NO-ROOM}
 use Rattle.counts.specs.Counts.{GROUP-SIZE, WORDS, COUNTS-SIZE}
-use Rattle.counts.specs.declared.lines.Written.{Written}
+use Rattle.count_lines.specs.declared.Written.{Written}
 
 -- ---- letters
 
