@@ -1,76 +1,83 @@
+-- Each turn counts the next Step.
+use mathlib.Core.Path.{_≡_, sym, ap, _∙_}
+use mathlib.Core.List.{List}
+use Prim.Native.Nat.{ℕ, _+_, _-_, _≤_}
+use native.Mathlib.Omega.{arith}
+use borrow.Author.Needs.{needs}
+use lib.ListN.{length, drop, length-drop}
+use Rattle.records.proofs.Judging.{rest-is}
+use Rattle.records.proofs.Lawfuls.{size-few, place-few}
+use Rattle.records.specs.Layout.{Layout, layout, stepSize}
+use Rattle.counts.specs.Parts.{Counted, shownStep}
+use Rattle.counts.proofs.Tallying.{Passed, passed-none, passed-tally, passed-whole, passed-next, passed-all}
 use Rattle.counts.proofs.tally.count_steps.Statement.{statement}
 use Rattle.counts.proofs.tally.count_steps.Tie as tie
-use Rattle.counts.proofs.tally.count_steps.Reads as reads
-use Rattle.counts.proofs.tally.count_steps.Lts as lts
-use Rattle.counts.proofs.tally.count_step.Reads as count-step-reads
-use Rattle.records.proofs.layout.start_size.Reads as start-size-reads
-use Rattle.records.proofs.layout.step_size.Reads as step-size-reads
 
 abbrev Inv-loop : tie.InvT-loop
-Inv-loop old trace steps gains₀ size at₀ k₀ gains at k = ?
+Inv-loop old trace steps gains₀ size at₀ k₀ gains at k = Passed (layout old) trace steps gains k at
 
 abbrev μ-loop : tie.MeasureT-loop
-μ-loop old trace steps gains₀ size at₀ k₀ gains at k = ?
+μ-loop old trace steps gains₀ size at₀ k₀ gains at k = steps - k
 
--- src/tally.rt:121:16
-step-size-requires : tie.Need-step-size-requires Inv-loop μ-loop
-step-size-requires c κs = ?
+-- what was given, seen from the loop
+abbrev start : tie.At-loop Inv-loop μ-loop → tie.Start Inv-loop μ-loop
+start c = c .before .before .before .before .before
 
--- src/tally.rt:121:16
-cast-size : tie.Need-cast-size Inv-loop μ-loop
-cast-size c = ?
+abbrev L : tie.At-loop Inv-loop μ-loop → Layout
+L c = layout (start c .args .old)
 
--- src/tally.rt:122:18
-start-size-requires : tie.Need-start-size-requires Inv-loop μ-loop
-start-size-requires c κs = ?
+abbrev trace : tie.At-loop Inv-loop μ-loop → List ℕ
+trace c = start c .args .trace .now
 
--- src/tally.rt:122:18
-cast-at : tie.Need-cast-at Inv-loop μ-loop
-cast-at c = ?
+-- a Step's size, and that the next one lies within the trace
+abbrev sized : tie.At-loop Inv-loop μ-loop → tie.After-step-size Inv-loop μ-loop
+sized c = c .before .before
 
--- src/tally.rt:124:5
+whole : (c : tie.In-loop Inv-loop μ-loop) → c .before .loop .at + stepSize (L (c .before)) ≤ length (trace (c .before))
+whole c =
+    let at = c .before in
+    passed-whole (L at) _ _ _ _ _ (at .loop .inv) (c .loop-test .taken) (start at .pre .1)
+
 loop-holds : tie.Need-loop-holds Inv-loop μ-loop
-loop-holds c = ?
+loop-holds c =
+    let s = c .before .before .before .before in
+    rw (c .start-size .ensures) (passed-none (layout (s .args .old)) _ _ _ (s .pre .2))
 
--- src/tally.rt:125:20
-sub-count-step : tie.Need-sub-count-step Inv-loop μ-loop
-sub-count-step c = ?
-
--- src/tally.rt:125:20
-part-count-step-start : tie.Need-part-count-step-start Inv-loop μ-loop
-part-count-step-start c = ?
-
--- src/tally.rt:125:20
-part-count-step-end : tie.Need-part-count-step-end Inv-loop μ-loop
-part-count-step-end c = ?
-
--- src/tally.rt:125:9
 count-step-requires : tie.Need-count-step-requires Inv-loop μ-loop
-count-step-requires c κs = ?
+count-step-requires c κs =
+    let turn = c .before .before in
+    let loop = turn .before .loop in
+    let s = trace (turn .before) in (
+      omega (arith, ap length (rest-is s (loop .at)), length-drop (loop .at) s, whole turn),
+      passed-tally (L (turn .before)) _ _ _ _ _ (loop .inv) (start (turn .before) .pre .0),
+    )
 
--- src/tally.rt:126:9
+-- the turn, seen from its end
+abbrev turned : tie.After-slice-known2 Inv-loop μ-loop → tie.In-loop Inv-loop μ-loop
+turned c = c .before .before .before .before .before
+
 add-k : tie.Need-add-k Inv-loop μ-loop
-add-k c = ?
+add-k c =
+    let turn = turned c in
+    record { fits = omega (arith, turn .loop-test .taken, start (turn .before) .pre .0) }
 
--- src/tally.rt:127:9
 add-at : tie.Need-add-at Inv-loop μ-loop
-add-at c = ?
+add-at c =
+    let turn = turned c in
+    let at = turn .before in
+    let old = start at .args .old in
+    let few = place-few old (at .loop .k) (omega (arith, turn .loop-test .taken, start at .pre .0)) in
+    record { fits = omega (arith, at .loop .inv .place, few, sized at .step-size .ensures, size-few old) }
 
--- src/tally.rt:124:5
-loop-less : tie.Need-loop-less Inv-loop μ-loop
-loop-less c = ?
-
--- src/tally.rt:124:5
 loop-again : tie.Need-loop-again Inv-loop μ-loop
-loop-again c = ?
-
--- src/tally.rt:117:1
-same-length : tie.Need-same-length Inv-loop μ-loop
-same-length c = ?
-
--- src/tally.rt:117:1
-returns : tie.Need-returns Inv-loop μ-loop
-returns c = ?
+loop-again c =
+    let turn = turned c in
+    let at = turn .before in
+    let loop = at .loop in
+    let step = c .before .before in
+    let counted : Counted (loop .gains) (shownStep (drop (loop .at) (trace at))) (step .count-step .last .1 .0) =
+    rw (rest-is (trace at) (loop .at)) at (step .count-step .ensures) in
+    rw (sized at .step-size .ensures) (passed-next (L at) _ _ _ _ _ (loop .inv) (turn .loop-test .taken) _ counted)
 
 pub count-steps-spec : {M : Type 1} → statement M
 count-steps-spec =
@@ -78,18 +85,18 @@ count-steps-spec =
     (tie.spec
     Inv-loop
     μ-loop
-    step-size-requires
-    cast-size
-    start-size-requires
-    cast-at
+    (λ c κs. search needs)
+    (λ c. search needs)
+    (λ c κs. search needs)
+    (λ c. search needs)
     loop-holds
-    sub-count-step
-    part-count-step-start
-    part-count-step-end
+    (λ c. omega (arith, whole c))
+    (λ c. omega (arith, whole c))
+    (λ c. search needs)
     count-step-requires
     add-k
     add-at
-    loop-less
+    (λ c. omega (arith, turned c .loop-test .taken))
     loop-again
-    same-length
-    returns)
+    (λ c. c .before .loop .inv .size ∙ sym (start (c .before) .pre .2 .size))
+    (λ c. passed-all (L (c .before)) _ _ _ _ _ (c .before .loop .inv) (c .loop-test .left)))
