@@ -1,11 +1,10 @@
 -- Lines from the last word to the first: the lines of the words passed stand at the end of the text, and there is room for
 -- sixteen bytes a word.
-use mathlib.Core.Path.{_≡_, refl, sym, ap, _∙_}
-use mathlib.Core.Bool.{Bool, true, false, not}
+use mathlib.Core.Path.{_≡_, sym, ap, _∙_}
+use mathlib.Core.Bool.{Bool, true, false}
 use mathlib.Core.List.{List, [], _∷_, _++_, append-nil}
 use Prim.Native.Nat.{ℕ, zero, suc, _+_, _-_, _*_, _/_, _%_, _<_, _≤_}
 use native.Mathlib.Omega.{arith}
-use native.Mathlib.Nat.{mul-suc}
 use lib.ListN.{length, take, drop, length-append}
 use lib.Seq.{drop-length, take-length}
 use lib.Dec.{eqb}

@@ -1,19 +1,18 @@
 -- What the rules answer has a word in each group: numbers are below 18, and the value of an exception tells a mode and an
 -- exception that are below 32.
-use mathlib.Core.Path.{_≡_, refl, sym, ap, _∙_, subst}
+use mathlib.Core.Path.{_≡_, refl, ap, _∙_, subst}
 use mathlib.Core.Bool.{Bool, true, false, not, _&&_, _||_}
 use mathlib.Core.List.{List, [], _∷_}
-use Prim.Native.Nat.{ℕ, suc, _+_, _*_, _/_, _%_, _<_, _≤_}
+use Prim.Native.Nat.{ℕ, suc, _/_, _%_, _<_}
 use native.Mathlib.Omega.{arith}
 use lib.ListN.{length}
-use lib.Dec.{eqb, lit<}
+use lib.Dec.{lit<}
 use borrow.Author.Tests.{eqb-true, eqb-false}
 use Rattle.words.specs.Word.{word}
 use Rattle.state.specs.Choice.{if_then_else_, _is_}
 use Rattle.state.specs.Number.{DONE}
 use Rattle.state.specs.Place.{CPSR, SCR, HCR}
-use Rattle.state.proofs.Test.{and-left, and-right}
-use Rattle.entry.specs.Code.{isSynchronous, INTERRUPT-CHECK, BANKED-READ}
+use Rattle.entry.specs.Code.{isSynchronous, BANKED-READ}
 use Rattle.entry.specs.Way.{Way, Barred, Enter}
 use Rattle.interrupts.specs.declared.exception.Exception.{Exception}
 use Rattle.interrupts.specs.declared.check.Found.{Found}
@@ -32,8 +31,8 @@ use Rattle.machine.proofs.Laws.{number-small, which-small}
 use Rattle.records.specs.Layout.{layout}
 use Rattle.records.specs.Judged.{wide}
 use Rattle.records.proofs.Lawfuls.{wide-answer}
-use Rattle.counts.specs.Counts.{Step, stepsFrom, codeNumber, isDone, isCheck, isEntry, targetMode}
-use Rattle.counts.specs.Counts.{isDoneCheck, exceptionTaken, howMany, GROUP-SIZE}
+use Rattle.counts.specs.Counts.{Step, stepsFrom, isDone, isCheck, isEntry}
+use Rattle.counts.specs.Counts.{isDoneCheck, howMany, GROUP-SIZE}
 use Rattle.counts.specs.Theorems.{total}
 use Rattle.counts.proofs.Bumping.{one}
 use Rattle.counts.proofs.Codes.{code-small}

@@ -1,14 +1,14 @@
 -- The theorems, each proved here or in the file that it cites.
-use mathlib.Core.Path.{_≡_, refl, sym, ap, _∙_}
+use mathlib.Core.Path.{_≡_, refl, ap, _∙_}
 use mathlib.Core.Bool.{Bool, true, false, not}
 use mathlib.Core.List.{List}
-use Prim.Native.Nat.{ℕ, _+_, _<_}
+use Prim.Native.Nat.{ℕ, _<_}
 use native.Mathlib.Omega.{arith}
 use native.Mathlib.Nat.{zero-add}
 use lib.ListN.{length}
 use lib.Dec.{eqb}
 use borrow.Author.Tests.{eq-eqb, ne-eqb, eqb-true, eqb-false}
-use Rattle.words.specs.Word.{word, Bytes}
+use Rattle.words.specs.Word.{word}
 use Rattle.state.specs.Choice.{if_then_else_}
 use Rattle.state.specs.Number.{DONE, BAD-SIZE, FULL}
 use Rattle.records.specs.Layout.{Layout, layout, isOld, layoutOf}
@@ -20,7 +20,7 @@ use Rattle.records.proofs.Determined.{start-read, events-read}
 use Rattle.records.proofs.Heads.{published-tells}
 use Rattle.records.proofs.Lawfuls.{lawful}
 use Rattle.counts.specs.Counts.{stepsFrom, stepsOf, sum, spellWords, anyPasses, countReturns, countLeaves, WORDS, COUNTS-SIZE}
-use Rattle.counts.specs.Theorems.{Counting, Theorems}
+use Rattle.counts.specs.Theorems.{Theorems}
 use Rattle.counts.proofs.Adding.{all-below, spelt-word, length-spelt}
 use Rattle.counts.proofs.Answered.{answers-add-up, codes-add-up, targets-add-up, taken-add-up}
 use Rattle.counts.proofs.Reading.{steps-read}

@@ -4,7 +4,7 @@
 -- A count stands at a word of its own: number i of group g at word 32 (g - 1) + i. An accepted trace adds the counts of its
 -- Steps to the words, a refused one adds nothing and keeps its number, and one that would carry any word past 4,294,967,295
 -- is refused whole with 13 FULL.
-use mathlib.Core.Bool.{Bool, true, false, not, _&&_, _||_}
+use mathlib.Core.Bool.{Bool, false, not, _&&_, _||_}
 use mathlib.Core.List.{List, [], _∷_, _++_}
 use Prim.Native.Nat.{ℕ, zero, suc, _+_, _/_, _%_}
 use lib.ListN.{length}

@@ -1,7 +1,6 @@
 -- What the inner functions of the counting ask and answer. Nobody has to believe these: the contracts of the public
 -- functions cite Counts.antt alone.
 use mathlib.Core.Path.{_≡_}
-use mathlib.Core.Bool.{Bool, _&&_}
 use mathlib.Core.List.{List, [], _∷_}
 use Prim.Native.Nat.{ℕ, zero, suc, _+_, _/_, _%_, _<_, _≤_, _^_}
 use lib.ListN.{length, drop}

@@ -10,8 +10,8 @@ use state::number::BAD_SIZE;
 use state::number::DONE;
 use state::number::FULL;
 
-// Counts an accepted trace, in the layout of its Start, and answers DONE. Any other answer leaves every count: BAD_SIZE for counts not of 512 bytes, the
-// trace's own number where it is refused, FULL where a count would pass 4,294,967,295.
+// Counts an accepted trace, of either layout, and answers DONE. Any other answer leaves every count: BAD_SIZE for counts not of
+// 512 bytes, the trace's own number where it is refused, FULL where a count would pass 4,294,967,295.
 pub fn count(trace: &[u8], counts: &mut [u8]) -> u32
     ensures returns { λ r. ⌜ r ≡ countReturnsOf (now (trace .entry)) (now (counts .entry)) ⌝ }
     ensures leaves { λ _. ⌜ now (counts .exit) ≡ countLeavesOf (now (trace .entry)) (now (counts .entry)) ⌝ }

@@ -19,10 +19,10 @@ ghost use Rattle.counts.specs.Parts.{
 };
 use crate::places::GROUP_SIZE;
 use entry::code;
-use state::number::DONE;
 use records::layout;
 use records::layout::start_size;
 use records::layout::step_size;
+use state::number::DONE;
 use words::get_word;
 use words::put_word;
 use words::word_at;

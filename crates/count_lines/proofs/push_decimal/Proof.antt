@@ -1,5 +1,5 @@
 -- The digits of the number are those of its tenth, and the last one: each turn puts the last one of what is left.
-use mathlib.Core.Path.{_≡_, _∙_}
+use mathlib.Core.Path.{_∙_}
 use native.Mathlib.Omega.{arith}
 use borrow.Author.Needs.{needs}
 use Rattle.count_lines.proofs.Pushing.{Written, written-none, written-room, written-next, written-last}

@@ -1,8 +1,6 @@
 -- The byte, and before it the number.
 use mathlib.Core.List.{[], _∷_}
-use mathlib.Core.Path.{_∙_}
 use native.Mathlib.Omega.{arith}
-use borrow.Author.Needs.{needs}
 use lib.ListN.{length-append}
 use Rattle.count_lines.specs.Lines.{decimal}
 use Rattle.count_lines.proofs.Pushing.{pushed-then}

@@ -1,7 +1,5 @@
 -- Each turn puts the line of one word less, if its count is not 0.
-use mathlib.Core.Path.{_≡_, _∙_}
 use native.Mathlib.Omega.{arith}
-use borrow.Author.Needs.{needs}
 use Rattle.count_lines.proofs.Lining.{Lined, lined-none, lined-room, lined-next, lined-same, lined-all}
 use Rattle.count_lines.proofs.push_lines.Statement.{statement}
 use Rattle.count_lines.proofs.push_lines.Tie as tie
