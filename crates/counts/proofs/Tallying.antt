@@ -1,15 +1,13 @@
 -- What the Steps passed so far have added, and what the others will add, is what all add.
-use mathlib.Core.Path.{_≡_, refl, sym, ap, _∙_}
-use mathlib.Core.Bool.{Bool, true, false}
+use mathlib.Core.Path.{_≡_, refl, ap, _∙_}
 use mathlib.Core.List.{List, [], _∷_}
-use Prim.Native.Nat.{ℕ, zero, suc, _+_, _-_, _*_, _/_, _%_, _<_, _≤_}
+use Prim.Native.Nat.{ℕ, zero, suc, _+_, _-_, _/_, _%_, _<_, _≤_}
 use native.Mathlib.Omega.{arith}
 use native.Mathlib.Nat.{mul-zero, mul-suc, mul-le-mul-left}
 use native.Mathlib.Numerals.{add-one}
 use lib.ListN.{length, drop}
 use lib.Seq.{drop-drop}
 use Rattle.words.specs.Word.{word}
-use Rattle.state.specs.Choice.{if_then_else_}
 use Rattle.records.specs.Layout.{Layout, startSize, stepSize, mostSteps, placeOf}
 use Rattle.counts.specs.Counts.{Step, counted, howMany, count, gain, GROUP-SIZE, WORDS, COUNTS-SIZE}
 use Rattle.counts.specs.Parts.{shownStep, shownSteps, Tally, Counted, Gains}

@@ -1,8 +1,8 @@
 -- One byte is set, and it stands before the text.
 use borrow.Author.Needs.{needs}
-use Rattle.counts.proofs.Pushing.{push-one}
-use Rattle.counts.proofs.lines.push.Statement.{statement}
-use Rattle.counts.proofs.lines.push.Tie as tie
+use Rattle.count_lines.proofs.Pushing.{push-one}
+use Rattle.count_lines.proofs.push.Statement.{statement}
+use Rattle.count_lines.proofs.push.Tie as tie
 
 pub push-spec : {M : Type 1} → statement M
 push-spec =

@@ -1,16 +1,15 @@
 -- The text that is made is the lines, and the room takes it where it fits.
-use mathlib.Core.List.{List, _++_}
-use mathlib.Core.Path.{_≡_, refl, sym, ap, _∙_}
-use Prim.Native.Nat.{ℕ, _-_}
+use mathlib.Core.Path.{_≡_, refl}
+use Prim.Native.Nat.{_-_}
 use native.Mathlib.Omega.{arith}
 use borrow.Author.Needs.{needs}
 use lib.ListN.{length, take, drop, replicate, length-drop}
-use Rattle.records.proofs.Judging.{rest-is}
-use Rattle.counts.specs.Lines.{lines}
-use Rattle.counts.specs.Parts.{TEXT-SIZE, Pushed}
-use Rattle.counts.proofs.Lining.{put-bad-size, put-no-room, put-done}
-use Rattle.counts.proofs.lines.put_lines.Statement.{statement}
-use Rattle.counts.proofs.lines.put_lines.Tie as tie
+use lib.Seq.{take-all}
+use Rattle.count_lines.specs.Lines.{lines}
+use Rattle.count_lines.specs.Parts.{TEXT-SIZE, Pushed}
+use Rattle.count_lines.proofs.Lining.{put-bad-size, put-no-room, put-done}
+use Rattle.count_lines.proofs.put_lines.Statement.{statement}
+use Rattle.count_lines.proofs.put_lines.Tie as tie
 
 -- what was given, and that the counts have their size, seen from behind the text's making
 abbrev given : tie.After-push-lines → tie.Start
@@ -38,7 +37,7 @@ whole : (c : tie.After-push-lines)
 whole c =
     let u = c .push-lines .last .1 .0 in
     let first = c .push-lines .result in
-    ap (λ (k : ℕ). take (k - first) (drop first u)) (sym (made c .size)) ∙ rest-is u first
+    take-all (TEXT-SIZE - first) (drop first u) (omega (arith, length-drop first u, made c .size))
 
 -- the text's making, seen from behind the copy
 abbrev copied : tie.After-copy → tie.After-push-lines

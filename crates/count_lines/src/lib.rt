@@ -1,15 +1,15 @@
 // The counts as lines of text. They are made from the back, number by number and digit by digit, in a buffer that is large
 // enough for any counts, and then copied to the front of the lent room.
 ghost use mathlib.Core.Path.{_≡_};
-ghost use mathlib.Core.List.{List, [], _∷_};
+ghost use mathlib.Core.List.{[], _∷_};
 ghost use Prim.Native.Nat.{_+_, _-_, _*_, _≤_, _<_};
-ghost use lib.ListN.{length, drop};
+ghost use lib.ListN.{length};
 ghost use Rattle.counts.specs.Counts.{COUNTS-SIZE};
-ghost use Rattle.counts.specs.Lines.{decimal, field, line, lines, linesReturn, linesLeave};
-ghost use Rattle.counts.specs.Parts.{Pushed, TEXT-SIZE};
-use crate::places::COUNTS_SIZE;
-use crate::places::GROUP_SIZE;
-use crate::places::WORDS;
+ghost use Rattle.count_lines.specs.Lines.{decimal, field, line, lines, linesReturn, linesLeave};
+ghost use Rattle.count_lines.specs.Parts.{Pushed, TEXT-SIZE};
+use counts::places::COUNTS_SIZE;
+use counts::places::GROUP_SIZE;
+use counts::places::WORDS;
 use state::number::BAD_SIZE;
 use state::number::DONE;
 use state::number::NO_ROOM;

@@ -1,6 +1,6 @@
 -- The counts as lines (document 02, No. 1): "one line per non-zero count: the group 1 to 4, the number within it, the count,
 -- in decimal, with single spaces between; groups in the order just given, numbers rising within each".
-use mathlib.Core.Bool.{Bool, true, false, not}
+use mathlib.Core.Bool.{not}
 use mathlib.Core.List.{List, [], _∷_, _++_}
 use Prim.Native.Nat.{ℕ, zero, suc, _+_, _/_, _%_}
 use lib.ListN.{length, drop}
@@ -8,8 +8,8 @@ use lib.Dec.{ltb}
 use Rattle.words.specs.Word.{word}
 use Rattle.state.specs.Choice.{if_then_else_, _is_}
 use Rattle.state.specs.Number.{DONE, BAD-SIZE, NO-ROOM}
 use Rattle.counts.specs.Counts.{GROUP-SIZE, WORDS, COUNTS-SIZE}
-use Rattle.counts.specs.declared.lines.Written.{Written}
+use Rattle.count_lines.specs.declared.Written.{Written}
 
 -- ---- letters
 

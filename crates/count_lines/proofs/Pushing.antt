@@ -2,16 +2,16 @@
 use mathlib.Core.Path.{_≡_, refl, sym, ap, _∙_}
 use mathlib.Core.Bool.{Bool, true, false}
 use mathlib.Core.List.{List, [], _∷_, _++_, append-assoc, append-nil}
-use Prim.Native.Nat.{ℕ, zero, suc, _+_, _-_, _*_, _/_, _%_, _<_, _≤_, _^_}
+use Prim.Native.Nat.{ℕ, zero, suc, _+_, _-_, _/_, _%_, _<_, _≤_, _^_}
 use native.Mathlib.Omega.{arith}
 use native.Mathlib.Nat.{pow-suc, pow-zero}
-use lib.ListN.{length, drop, set, getD, length-append, length-set}
+use lib.ListN.{length, drop, set, length-append, length-set}
 use lib.Seq.{drop-cons, getD-set-same}
 use lib.Dec.{ltb}
 use borrow.Author.Tests.{lt-ltb, le-ltb, ltb-true, ltb-false}
 use Rattle.state.specs.Choice.{if_then_else_}
-use Rattle.counts.specs.Lines.{ZERO, digits, decimal}
-use Rattle.counts.specs.Parts.{Pushed}
+use Rattle.count_lines.specs.Lines.{ZERO, digits, decimal}
+use Rattle.count_lines.specs.Parts.{Pushed}
 
 -- ---- one byte, and one text after another
 

@@ -1,10 +1,8 @@
 -- Each turn puts the line of one word less, if its count is not 0.
-use mathlib.Core.Path.{_≡_, _∙_}
 use native.Mathlib.Omega.{arith}
-use borrow.Author.Needs.{needs}
-use Rattle.counts.proofs.Lining.{Lined, lined-none, lined-room, lined-next, lined-same, lined-all}
-use Rattle.counts.proofs.lines.push_lines.Statement.{statement}
-use Rattle.counts.proofs.lines.push_lines.Tie as tie
+use Rattle.count_lines.proofs.Lining.{Lined, lined-none, lined-room, lined-next, lined-same, lined-all}
+use Rattle.count_lines.proofs.push_lines.Statement.{statement}
+use Rattle.count_lines.proofs.push_lines.Tie as tie
 
 abbrev Inv-loop : tie.InvT-loop
 Inv-loop counts text₀ first₀ w₀ text first w = Lined text₀ counts text first w

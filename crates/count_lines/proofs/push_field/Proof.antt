@@ -1,13 +1,11 @@
 -- The byte, and before it the number.
 use mathlib.Core.List.{[], _∷_}
-use mathlib.Core.Path.{_∙_}
 use native.Mathlib.Omega.{arith}
-use borrow.Author.Needs.{needs}
 use lib.ListN.{length-append}
-use Rattle.counts.specs.Lines.{decimal}
-use Rattle.counts.proofs.Pushing.{pushed-then}
-use Rattle.counts.proofs.lines.push_field.Statement.{statement}
-use Rattle.counts.proofs.lines.push_field.Tie as tie
+use Rattle.count_lines.specs.Lines.{decimal}
+use Rattle.count_lines.proofs.Pushing.{pushed-then}
+use Rattle.count_lines.proofs.push_field.Statement.{statement}
+use Rattle.count_lines.proofs.push_field.Tie as tie
 
 -- what was given, seen from behind the byte
 abbrev given : tie.After-push → tie.Start

@@ -1,11 +1,10 @@
 -- Lines from the last word to the first: the lines of the words passed stand at the end of the text, and there is room for
 -- sixteen bytes a word.
-use mathlib.Core.Path.{_≡_, refl, sym, ap, _∙_}
-use mathlib.Core.Bool.{Bool, true, false, not}
+use mathlib.Core.Path.{_≡_, sym, ap, _∙_}
+use mathlib.Core.Bool.{Bool, true, false}
 use mathlib.Core.List.{List, [], _∷_, _++_, append-nil}
 use Prim.Native.Nat.{ℕ, zero, suc, _+_, _-_, _*_, _/_, _%_, _<_, _≤_}
 use native.Mathlib.Omega.{arith}
-use native.Mathlib.Nat.{mul-suc}
 use lib.ListN.{length, take, drop, length-append}
 use lib.Seq.{drop-length, take-length}
 use lib.Dec.{eqb}
@@ -13,11 +12,11 @@ use borrow.Author.Tests.{eq-eqb, ne-eqb, lt-ltb, le-ltb}
 use Rattle.words.specs.Word.{word}
 use Rattle.state.specs.Choice.{if_then_else_}
 use Rattle.state.specs.Number.{DONE, BAD-SIZE, NO-ROOM}
 use Rattle.counts.specs.Counts.{GROUP-SIZE, WORDS, COUNTS-SIZE}
-use Rattle.counts.specs.Lines.{SPACE, LINE-END, decimal, field, line, lineOf, linesFrom, lines, linesReturn, linesLeave}
-use Rattle.counts.specs.Parts.{TEXT-SIZE, Pushed}
-use Rattle.counts.specs.declared.lines.Written.{Written}
-use Rattle.counts.proofs.Pushing.{pushed-none, pushed-then, digits-few, decimal-one, decimal-two}
+use Rattle.count_lines.specs.Lines.{SPACE, LINE-END, decimal, field, line, lineOf, linesFrom, lines, linesReturn, linesLeave}
+use Rattle.count_lines.specs.Parts.{TEXT-SIZE, Pushed}
+use Rattle.count_lines.specs.declared.Written.{Written}
+use Rattle.count_lines.proofs.Pushing.{pushed-none, pushed-then, digits-few, decimal-one, decimal-two}
 
 -- ---- how long they are
 

@@ -1,15 +1,14 @@
 -- The count, before it the number, and before that the group.
 use native.Mathlib.Omega.{arith}
-use borrow.Author.Needs.{needs}
 use lib.ListN.{length-append}
 use Prim.Native.Nat.{ℕ, _+_}
 use mathlib.Core.Path.{_≡_}
 use mathlib.Core.List.{_++_}
 use lib.ListN.{length}
-use Rattle.counts.specs.Lines.{SPACE, LINE-END, field, line}
-use Rattle.counts.proofs.Pushing.{pushed-then}
-use Rattle.counts.proofs.lines.push_line.Statement.{statement}
-use Rattle.counts.proofs.lines.push_line.Tie as tie
+use Rattle.count_lines.specs.Lines.{SPACE, LINE-END, field, line}
+use Rattle.count_lines.proofs.Pushing.{pushed-then}
+use Rattle.count_lines.proofs.push_line.Statement.{statement}
+use Rattle.count_lines.proofs.push_line.Tie as tie
 
 -- a line is as long as its fields
 fields : (group number count : ℕ)

@@ -1,10 +1,10 @@
 -- The digits of the number are those of its tenth, and the last one: each turn puts the last one of what is left.
-use mathlib.Core.Path.{_≡_, _∙_}
+use mathlib.Core.Path.{_∙_}
 use native.Mathlib.Omega.{arith}
 use borrow.Author.Needs.{needs}
-use Rattle.counts.proofs.Pushing.{Written, written-none, written-room, written-next, written-last}
-use Rattle.counts.proofs.lines.push_decimal.Statement.{statement}
-use Rattle.counts.proofs.lines.push_decimal.Tie as tie
+use Rattle.count_lines.proofs.Pushing.{Written, written-none, written-room, written-next, written-last}
+use Rattle.count_lines.proofs.push_decimal.Statement.{statement}
+use Rattle.count_lines.proofs.push_decimal.Tie as tie
 
 abbrev Inv-loop : tie.InvT-loop
 Inv-loop text₀ at number first₀ rest₀ text first rest = Written text₀ at number text first rest
