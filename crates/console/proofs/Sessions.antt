@@ -16,7 +16,8 @@ use Rattle.records.specs.Either.{reportOf, PublishedInOne}
 use Rattle.records.specs.Session.{CLOSED, session, openedSession, fedSession, fedRuns, feedNumber, shutting, shut, closing}
 use Rattle.records.specs.Arrival.{joined}
 use Rattle.records.proofs.Arrivals.{arrival-of}
-use Rattle.records.proofs.Joining.{joins, all-runs, one-run, arrival-of-both}
+use Rattle.records.proofs.Joining.{joins, all-runs, arrival-of-both}
+use Rattle.records.proofs.Joining as joining
 use Rattle.console.specs.Check.{reportSize, reportBytes, checkReturns, checkLeaves}
 use Rattle.console.specs.Session.{Feeds, Closes, FedRuns, no-run, one-run, Arriving, Arrived, SessionTheorems}
 use Rattle.console.specs.Session.{closeReturns, closeKeeps, closeLeaves}
@@ -55,7 +56,7 @@ fed-once-more rs bytes s t n a f =
     (f .leaves
     ∙ ap (λ (u : Session). fedSession u bytes) (arrived rs s a ∙ all-runs rs)
     ∙ joins (joined rs) bytes
-    ∙ sym (one-run (joined rs ++ bytes)))
+    ∙ sym (joining.one-run (joined rs ++ bytes)))
 
 -- opened, fed and closed: the report of the whole
 module _ (rs : List (List ℕ)) (n : ℕ) (buffer′ : List ℕ) (j : Arrived rs n buffer′) where

@@ -82,14 +82,16 @@ module _ (L : Layout) where
       passed-whole less whole =
           omega (arith, p .place, mul-suc (stepSize L) k, mul-le-mul-left (stepSize L) less)
 
-      pub passed-next : k < steps → (c : List ℕ) → Counted gains (shownStep (drop at s)) c → Passed c (k + 1) (at + stepSize L)
-      passed-next less c n =
-          record {
+      pub passed-next : k < steps → (c : List ℕ) → Counted gains (shownStep (drop at s)) c → (size : ℕ) → size ≡ stepSize L
+          → Passed c (k + 1) (at + size)
+      passed-next less c n size is =
+          rw is
+          (record {
             place = omega (arith, p .place, mul-suc (stepSize L) k, add-one k);
             few = omega arith;
             size = n .size;
             words = next;
-          }
+          })
         where
           next : (w : ℕ) → w < WORDS
               → word c w + gain (shownSteps L (steps - (k + 1)) (drop (at + stepSize L) s)) w ≡ gain all w

@@ -184,5 +184,5 @@ theorems L LL =
           ∙ sym (room L (length b) (length es) (length s) offset z few (omega (arith, l)) (omega (arith, l)));
     }
 
-pub theorems01 : RecorderTheorems newLayout
-theorems01 = theorems newLayout lawful-new
+pub theorems-new : RecorderTheorems newLayout
+theorems-new = theorems newLayout lawful-new

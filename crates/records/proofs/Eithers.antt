@@ -29,7 +29,7 @@ use Rattle.records.proofs.Checkers.{bytes-published}
 use Rattle.records.proofs.Theorems.{theorems-of}
 
 -- the report on a string that has this layout is this layout's
-by-layout : (old : Bool) (s : List ℕ) → isOld s ≡ old → reportOf s ≡ report (layout old) s
+pub by-layout : (old : Bool) (s : List ℕ) → isOld s ≡ old → reportOf s ≡ report (layout old) s
 by-layout old s e = ap (λ o. report (layout o) s) e
 
 -- of the front of a string it is that of the whole string's layout

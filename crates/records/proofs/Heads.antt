@@ -14,8 +14,8 @@ use Rattle.words.specs.Word.{half}
 use Rattle.state.specs.Choice.{_is_}
 use Rattle.records.specs.Layout.{Layout, layout, newLayout, isOld, headSize, startSize, kindAt}
 use Rattle.records.specs.Published.{startRecord, stepRecords, endRecord, published, Published}
-use Rattle.records.specs.Report.{headNumber, startNumber, report, SHORT}
-use Rattle.records.proofs.Faults.{head-whole, head-short, below}
+use Rattle.records.specs.Report.{headNumber, startNumber, report, ACCEPTED, SHORT}
+use Rattle.records.proofs.Faults.{head-whole, head-short, below, else-zero, refused-zero}
 use Rattle.records.proofs.Begun.{old-front}
 use Rattle.records.proofs.Lawfuls.{lawful}
 use Rattle.records.proofs.Records.{start-head}
@@ -46,6 +46,14 @@ start-tells old n b t h = head-tells old _ (start-head (layout old) (lawful old)
 pub published-tells : (old : Bool) (s : List ℕ) → Published (layout old) s → isOld s ≡ old
 unfolding published
 published-tells old s p = ap isOld (p .is) ∙ start-tells old _ (p .start) _ (p .size)
+
+-- so a string that a layout accepts has that layout
+pub accepted-tells : (old : Bool) (s : List ℕ) → report (layout old) s .number ≡ ACCEPTED → isOld s ≡ old
+unfolding report startNumber
+accepted-tells old s z =
+    let L = layout old in
+    let start = refused-zero (startNumber L s) 0 0 _ z .0 in
+    head-tells old s (else-zero (headNumber (startSize L) (L .startKind) s) _ start .0)
 
 -- of fewer bytes than a head every layout says that they are short
 pub few-short : (L : Layout) (s : List ℕ) → length s < headSize → report L s ≡ record { number = SHORT; place = 0; steps = 0 }

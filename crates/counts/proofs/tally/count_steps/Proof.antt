@@ -77,7 +77,7 @@ loop-again c =
     let step = c .before .before in
     let counted : Counted (loop .gains) (shownStep (drop (loop .at) (trace at))) (step .count-step .last .1 .0) =
     rw (rest-is (trace at) (loop .at)) at (step .count-step .ensures) in
-    rw (sized at .step-size .ensures) (passed-next (L at) _ _ _ _ _ (loop .inv) (turn .loop-test .taken) _ counted)
+    passed-next (L at) _ _ _ _ _ (loop .inv) (turn .loop-test .taken) _ counted _ (sized at .step-size .ensures)
 
 pub count-steps-spec : {M : Type 1} → statement M
 count-steps-spec =

@@ -44,19 +44,19 @@ use denote.Triple.Walked.{Stays, stay-ref, gave-slice, walkOf, says, ends-at, Wa
 use Rattle.records.specs.declared.session.Progress.{Progress}
 use Rattle.records.specs.declared.session.Session.{Session}
 use Rattle.records.specs.Session.{session}
-use Rattle.console.specs.declared.session.Closing.{Closing}
+use Rattle.console.specs.declared.feeding.Closing.{Closing}
 use Rattle.console.specs.Session.{closeReturns, closeKeeps, closeLeaves, Closes}
-use Rattle.console.proofs.session.Closing as closing
-use Rattle.console.proofs.session.Closing.Laws as closing-laws
-use Rattle.console.proofs.session.close_into as close
-use Rattle.console.proofs.session.close_into.Symbol as close-symbol
-use Rattle.console.proofs.session.close_into.Met as close-met
+use Rattle.console.proofs.feeding.Closing as closing
+use Rattle.console.proofs.feeding.Closing.Laws as closing-laws
+use Rattle.console.proofs.feeding.close_into as close
+use Rattle.console.proofs.feeding.close_into.Symbol as close-symbol
+use Rattle.console.proofs.feeding.close_into.Met as close-met
 use Rattle.console.proofs.Walking.{ungroup, into, value, behind, answered, freed}
 use Rattle.console.proofs.Lending.{Whole, Numbers, words, Fits, fit, typed, owned-numbers, taken-apart, put-together}
-use Rattle.console.proofs.session.pomurica_close as this
-use Rattle.console.proofs.session.pomurica_close.Code as code
-use Rattle.console.proofs.session.pomurica_close.Key as key
-use Rattle.console.proofs.session.pomurica_close.Statement.{statement}
+use Rattle.console.proofs.feeding.pomurica_close as this
+use Rattle.console.proofs.feeding.pomurica_close.Code as code
+use Rattle.console.proofs.feeding.pomurica_close.Key as key
+use Rattle.console.proofs.feeding.pomurica_close.Statement.{statement}
 
 -- at exit the session is still owned, and the report is given up
 abbrev stayed : Stays (this.ended .signature .params) (this.ended .kept)
@@ -252,4 +252,4 @@ pomurica-close-spec 𝓤 H 𝓜 𝓖 𝓡 =
     (code.unfolded 𝓤 H 𝓜 𝓡)
     (meets 𝓤 H A (givenOf 𝓤 H 𝓜 𝓖) (𝓜 .mem) (𝓡 .run) (tablesOf 𝓤 H 𝓜 calls)
     (cited 𝓤 H (Close 𝓤 H A (𝓜 .mem) (𝓡 .run)) 𝓜 𝓡 code.env close-symbol.name close-symbol.routine
-    code.calls-console·session·close-into (close-met.met 𝓤 H 𝓜 𝓖 𝓡)))
+    code.calls-console·feeding·close-into (close-met.met 𝓤 H 𝓜 𝓖 𝓡)))

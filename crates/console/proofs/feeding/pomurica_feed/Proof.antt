@@ -43,7 +43,7 @@ use denote.Triple.Walked.{walk-meets}
 use denote.Exit.{yes}
 use Rattle.records.specs.declared.session.Progress.{Progress}
 use Rattle.records.specs.declared.session.Session.{Session}
-use Rattle.records.specs.Session.{session, fed, feedNumber}
+use Rattle.records.specs.Session.{session, fedSession, feedNumber}
 use Rattle.records.proofs.session.Progress.Laws as progress-laws
 use Rattle.session.proofs.feed as feed
 use Rattle.session.proofs.feed.Symbol as feed-symbol
@@ -55,10 +55,10 @@ use Rattle.console.specs.Session.{Feeds}
 use Rattle.console.proofs.Walking.{ungroup, into, value, behind, reference, lent, given-back, answered, freed}
 use Rattle.console.proofs.Lending.{Whole, Numbers, Block, Unfinished, blockAt, unfinishedAt, words, is-words, fit, typed}
 use Rattle.console.proofs.Lending.{owned-numbers, taken-apart, put-together}
-use Rattle.console.proofs.session.pomurica_feed as this
-use Rattle.console.proofs.session.pomurica_feed.Code as code
-use Rattle.console.proofs.session.pomurica_feed.Key as key
-use Rattle.console.proofs.session.pomurica_feed.Statement.{statement}
+use Rattle.console.proofs.feeding.pomurica_feed as this
+use Rattle.console.proofs.feeding.pomurica_feed.Code as code
+use Rattle.console.proofs.feeding.pomurica_feed.Key as key
+use Rattle.console.proofs.feeding.pomurica_feed.Statement.{statement}
 
 -- at exit the session is still owned, and the bytes are as they were
 abbrev stayed : Stays (this.ended .signature .params) (this.ended .kept)
@@ -276,7 +276,7 @@ pomurica-feed-spec 𝓤 H 𝓜 𝓖 𝓡 =
     entered 𝓤 H (tripleOf 𝓤 H A this.signature (this.spec 𝓤 H A (𝓜 .mem) (𝓡 .run))) (calls .C) (calls .Λ) key.name code.function
     (code.unfolded 𝓤 H 𝓜 𝓡)
     (meets 𝓤 H A (givenOf 𝓤 H 𝓜 𝓖) (𝓜 .mem) (𝓡 .run) (tablesOf 𝓤 H 𝓜 calls)
-    (cited 𝓤 H (Feed 𝓤 H A (𝓜 .mem) (𝓡 .run)) 𝓜 𝓡 code.env feed-symbol.name feed-symbol.routine code.calls-trace·session·feed
+    (cited 𝓤 H (Feed 𝓤 H A (𝓜 .mem) (𝓡 .run)) 𝓜 𝓡 code.env feed-symbol.name feed-symbol.routine code.calls-session·feed
     (feed-met.met 𝓤 H 𝓜 𝓖 𝓡))
     (cited 𝓤 H (Number 𝓤 H A (𝓜 .mem) (𝓡 .run)) 𝓜 𝓡 code.env number-symbol.name number-symbol.routine
-    code.calls-trace·session·feed-number (number-met.met 𝓤 H 𝓜 𝓖 𝓡)))
+    code.calls-session·feed-number (number-met.met 𝓤 H 𝓜 𝓖 𝓡)))

@@ -39,7 +39,7 @@ use denote.Triple.Call.{calls-at}
 use denote.Triple.Table.{entered, cited}
 use denote.Triple.Walked.{says, Stays, stay-ref, walkOf, AllGo, goes-ref, Walks, ends-at, walked, walk-meets}
 use Rattle.records.specs.declared.session.Session.{Session}
-use Rattle.records.specs.Session.{opened}
+use Rattle.records.specs.Session.{openedSession}
 use Rattle.records.proofs.session.Session as whole
 use Rattle.records.proofs.session.Session.Laws as whole-laws
 use Rattle.session.proofs.«open» as callee
@@ -48,10 +48,10 @@ use Rattle.session.proofs.«open».Met as callee-met
 use Rattle.console.specs.Session.{Opens}
 use Rattle.console.proofs.Walking.{ungroup, into, value, answered, freed}
 use Rattle.console.proofs.Lending.{Whole}
-use Rattle.console.proofs.session.pomurica_open as this
-use Rattle.console.proofs.session.pomurica_open.Code as code
-use Rattle.console.proofs.session.pomurica_open.Key as key
-use Rattle.console.proofs.session.pomurica_open.Statement.{statement}
+use Rattle.console.proofs.feeding.pomurica_open as this
+use Rattle.console.proofs.feeding.pomurica_open.Code as code
+use Rattle.console.proofs.feeding.pomurica_open.Key as key
+use Rattle.console.proofs.feeding.pomurica_open.Statement.{statement}
 
 -- at exit the session is still owned
 abbrev stayed : Stays (this.ended .signature .params) (this.ended .kept)
@@ -165,5 +165,5 @@ pomurica-open-spec 𝓤 H 𝓜 𝓖 𝓡 =
     entered 𝓤 H (tripleOf 𝓤 H A this.signature (this.spec 𝓤 H A (𝓜 .mem) (𝓡 .run))) (calls .C) (calls .Λ) key.name code.function
     (code.unfolded 𝓤 H 𝓜 𝓡)
     (meets 𝓤 H A (givenOf 𝓤 H 𝓜 𝓖) (𝓜 .mem) (𝓡 .run) (tablesOf 𝓤 H 𝓜 calls)
-    (cited 𝓤 H (Callee 𝓤 H A (𝓜 .mem) (𝓡 .run)) 𝓜 𝓡 code.env callee-symbol.name callee-symbol.routine code.calls-trace·session·open
+    (cited 𝓤 H (Callee 𝓤 H A (𝓜 .mem) (𝓡 .run)) 𝓜 𝓡 code.env callee-symbol.name callee-symbol.routine code.calls-session·open
     (callee-met.met 𝓤 H 𝓜 𝓖 𝓡)))

@@ -5,8 +5,8 @@ use borrow.Author.Tests.{eq-eqb, ne-eqb}
 use Rattle.records.specs.declared.report.Report.{Report}
 use Rattle.console.specs.Check.{reportBytes}
 use Rattle.console.specs.Session.{closeReturns, closeKeeps, closeLeaves}
-use Rattle.console.proofs.session.close_into.Statement.{statement}
-use Rattle.console.proofs.session.close_into.Tie as tie
+use Rattle.console.proofs.feeding.close_into.Statement.{statement}
+use Rattle.console.proofs.feeding.close_into.Tie as tie
 
 returns : tie.Need-returns
 unfolding closeReturns closeKeeps closeLeaves
