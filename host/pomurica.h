@@ -25,8 +25,8 @@
  *
  * The archive libconsole.a is x86-64 code for Linux: ELF, the System V calling
  * convention, position independent, for any x86-64 processor.  It defines the
- * ten functions and no other name, calls nothing but the C library's memcpy
- * and memset, and stands behind the objects that use it:
+ * ten functions and no other name, calls nothing but the C library's memcpy,
+ * memmove and memset, and stands behind the objects that use it:
  *
  *     cc -I host program.c libconsole.a
  *

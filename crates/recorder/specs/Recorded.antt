@@ -22,7 +22,7 @@ module _ (L : Layout) where
   abbrev pub blockBefore : ℕ → List ℕ → List ℕ
   blockBefore place s = take (L .size) (drop (place - L .size) s)
 
-  -- the bytes of a trace of n Steps: in document 01's layout 192 + 200n
+  -- the bytes of a trace of n Steps: in the old layout 192 + 200n, in the new 196 + 204n
   abbrev pub traceSize : ℕ → ℕ
   traceSize n = startSize L + (stepSize L * n + endSize)
 

@@ -4,7 +4,8 @@ use mathlib.Core.List.{List, [], _∷_, _++_}
 use Prim.Native.Nat.{ℕ}
 use lib.ListN.{replicate, take}
 use Rattle.words.specs.Word.{half, spelt}
-use Rattle.records.specs.Layout.{oldLayout, newLayout}
+use Rattle.records.specs.Layout.{oldLayout, newLayout, isOld}
+use Rattle.records.specs.Either.{reportOf}
 use Rattle.records.specs.Report.{report, reportFrom, startNumber, endNumber, endReport, headNumber}
 
 -- the shortest trace, 192 bytes
@@ -33,3 +34,9 @@ pub case-count : report oldLayout (0xB8 ∷ 0 ∷ 1 ∷ 0 ∷ 255 ∷ 255 ∷ 25
     ≡ record { number = 10; place = 0; steps = 0 }
 unfolding report reportFrom startNumber headNumber half spelt
 case-count = refl
+
+-- the length of one layout with the kind of the other: (188, kind 1) and (184, kind 4)
+pub case-crossed : (reportOf (0xBC ∷ 0 ∷ 1 ∷ 0 ∷ replicate 184 0) ≡ record { number = 9; place = 0; steps = 0 })
+    × (reportOf (0xB8 ∷ 0 ∷ 4 ∷ 0 ∷ replicate 180 0) ≡ record { number = 9; place = 0; steps = 0 })
+unfolding isOld report reportFrom startNumber headNumber half spelt
+case-crossed = (refl, refl)

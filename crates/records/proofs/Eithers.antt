@@ -1,11 +1,11 @@
 -- What is proved of the traces of either layout, by what is proved of each: the head of its Start tells a string's layout (Heads.antt).
 use mathlib.Core.Path.{_≡_, refl, sym, ap, _∙_, subst}
 use mathlib.Core.Logic.{_⊎_, inl, inr, _↔_}
-use mathlib.Core.Bool.{Bool, true, false}
+use mathlib.Core.Bool.{Bool, true, false, not}
 use mathlib.Core.List.{List, [], _∷_, _++_, append-assoc}
-use Prim.Native.Nat.{ℕ, _+_, _*_, _<_, _≤_}
+use Prim.Native.Nat.{ℕ, suc, _+_, _-_, _*_, _<_, _≤_}
 use native.Mathlib.Omega.{arith}
-use lib.ListN.{length, take, getD, replicate, length-take, length-replicate}
+use lib.ListN.{length, take, drop, getD, replicate, length-take, length-replicate}
 use lib.Dec.{eqb, leb, ltb}
 use Rattle.words.specs.Word.{half, spelt, Bytes}
 use Rattle.words.proofs.Spell.{bytes-none, bytes-zeros}
@@ -13,18 +13,20 @@ use Rattle.rules.specs.declared.event.Event.{Event}
 use Rattle.rules.specs.declared.verdict.Answer.{Answer}
 use Rattle.state.specs.Choice.{if_then_else_}
 use Rattle.records.specs.declared.report.Report.{Report}
-use Rattle.records.specs.Layout.{Layout, layout, isOld, layoutOf, headSize, startSize, stepSize, endSize, mostSteps, kindAt, countAt}
-use Rattle.records.specs.Published.{AreEvents, startRecord, stepRecords, endRecord, published, Published}
-use Rattle.records.specs.Report.{report, ACCEPTED, BAD-RECORD}
+use Rattle.records.specs.Layout.{Layout, oldLayout, newLayout, layout, isOld, layoutOf, headSize, startSize, stepSize, endSize, mostSteps, placeOf, kindAt, countAt}
+use Rattle.records.specs.Published.{AreEvents, startRecord, stepShowing, stepRecord, stepRecords, run, endRecord, published, Published}
+use Rattle.records.specs.Report.{report, reportFrom, headNumber, stepNumber, refused, unless, _else_, sameBytes, eventOf}
+use Rattle.records.specs.Report.{ACCEPTED, BAD-RECORD, WRONG-STEP}
 use Rattle.records.specs.Claims.{Says, Misjudged, judgedTo, dueSize, changed, Meets, ChangedAt, InStep}
 use Rattle.records.specs.Claims.{LeavesUnread, ReadsStartAndEndOnly, WalksTheOthers}
 use Rattle.records.specs.Theorems.{OfPublished, OfChanged}
 use Rattle.records.specs.Either.{reportOf, PublishedInOne, MeetsBoth, RefusesTraces, AcceptsAll, OfBoth}
-use Rattle.records.proofs.Faults.{below, differ}
+use Rattle.records.proofs.Faults.{below, differ, head-bad}
 use Rattle.records.proofs.Heads.{old-by, cut-old, start-tells, published-tells, few-short}
 use Rattle.records.proofs.Begun.{old-front}
 use Rattle.records.proofs.Records.{length-published}
 use Rattle.records.proofs.Lawfuls.{lawful}
+use Rattle.records.proofs.Accepts.{report-begun}
 use Rattle.records.proofs.Checkers.{bytes-published}
 use Rattle.records.proofs.Theorems.{theorems-of}
 
@@ -141,6 +143,33 @@ module _ (old : Bool) (b : List ℕ) (h : length b ≡ layout old .size) where
         word-changed = λ p w l k d. has _ _ ∙ of .word-changed p w l k d;
       }
 
+-- ---- a trace that mixes the layouts
+
+-- the head of a Step of the other layout is not the one due
+other-head : (old : Bool) (e : Event) (x : Answer) (c t : List ℕ)
+    → headNumber (stepSize (layout old)) (layout old .stepKind) (stepShowing (layout (not old)) e x c ++ t) ≡ BAD-RECORD
+unfolding stepShowing half
+other-head true e x c t = head-bad 200 2 (stepShowing newLayout e x c ++ t) (omega arith) (λ len kind. omega (arith, len))
+other-head false e x c t = head-bad 204 5 (stepShowing oldLayout e x c ++ t) (omega arith) (λ len kind. omega (arith, len))
+
+mixed-refused : (old : Bool) (n : ℕ) (b : List ℕ) (es : List Event) → length b ≡ layout old .size → length es < n → n ≤ mostSteps
+    → AreEvents es
+    → (e : Event) (x : Answer) (c t : List ℕ)
+    → reportOf (startRecord (layout old) n b ++ (stepRecords (layout old) b es ++ (stepShowing (layout (not old)) e x c ++ t)))
+    ≡ record { number = BAD-RECORD; place = placeOf (layout old) (length es); steps = length es }
+unfolding reportFrom stepNumber
+mixed-refused old n b es h l few ok e x c t =
+    let M = layout old in
+    let k : ℕ = length es in
+    let r : List ℕ = stepShowing (layout (not old)) e x c ++ t in
+    let due : n - k ≡ suc (n - k - 1) = omega arith in
+    by-layout old _ (start-tells old n b (stepRecords M b es ++ r) h)
+    ∙ report-begun M (lawful old) n b es r (omega arith) few h ok
+    ∙ ap (λ (m : ℕ). reportFrom M m k (run M b es) r) due
+    ∙ ap (λ (f : ℕ). refused (f else unless (sameBytes (take (stepSize M) r) (stepRecord M (run M b es) (eventOf r))) WRONG-STEP)
+    (placeOf M k) k (reportFrom M (n - k - 1) (k + 1) (M .after (run M b es) (eventOf r)) (drop (stepSize M) r)))
+    (other-head old e x c t)
+
 -- ---- checkers
 
 -- one for both layouts, on the strings of one; on others it is made right
@@ -217,6 +246,9 @@ both =
       published-once = published-once;
       of-published = λ old b es h. of-published old b h es;
       of-changed = λ old b es e fs h. of-changed old b h es e fs;
+      mixed-refused = mixed-refused;
+      meets-once = λ f g m k s by. m .reports s by ∙ sym (k .reports s by);
+      meets-report = record { reports = λ s by. refl; exact = accepts-exactly };
       not-refusing-all = λ old f r m.
           let p = nothing-done (layout old) in
           let by = bytes-published (layout old) (lawful old) (p .start) [] (p .size) (p .bytes) in

@@ -3,16 +3,17 @@
 -- nothing more".
 use mathlib.Core.Path.{_≡_}
 use mathlib.Core.Logic.{_↔_}
-use mathlib.Core.Bool.{Bool}
+use mathlib.Core.Bool.{Bool, not}
 use mathlib.Core.List.{List, _∷_, _++_}
-use Prim.Native.Nat.{ℕ, _≤_}
+use Prim.Native.Nat.{ℕ, _<_, _≤_}
 use lib.ListN.{length, take}
 use Rattle.words.specs.Word.{Bytes}
 use Rattle.rules.specs.declared.event.Event.{Event}
+use Rattle.rules.specs.declared.verdict.Answer.{Answer}
 use Rattle.records.specs.declared.report.Report.{Report}
-use Rattle.records.specs.Layout.{Layout, layout, isOld, layoutOf, mostSteps}
-use Rattle.records.specs.Published.{AreEvents, Published}
-use Rattle.records.specs.Report.{report, ACCEPTED}
+use Rattle.records.specs.Layout.{Layout, layout, isOld, layoutOf, mostSteps, placeOf}
+use Rattle.records.specs.Published.{AreEvents, startRecord, stepShowing, stepRecords, Published}
+use Rattle.records.specs.Report.{report, ACCEPTED, BAD-RECORD}
 use Rattle.records.specs.Claims.{Says, Misjudged, judgedTo, ReadsStartAndEndOnly, WalksTheOthers}
 use Rattle.records.specs.Theorems.{OfPublished, OfChanged}
 
@@ -62,8 +63,18 @@ pub record OfBoth : Type 0 where
       → length (es ++ e ∷ fs) ≤ mostSteps
       → AreEvents (es ++ e ∷ fs)
       → OfChanged reportOf (layout old) b es e fs
-  -- ---- checkers: no function that meets the contract
+  -- "a trace that mixes them is BAD_RECORD at the record that is not due": behind a Start of one layout and right Steps, a Step of the
+  -- other, whatever it shows and whatever follows
+  pub mixed-refused : (old : Bool) (n : ℕ) (b : List ℕ) (es : List Event) → length b ≡ layout old .size → length es < n
+      → n ≤ mostSteps
+      → AreEvents es
+      → (e : Event) (x : Answer) (c t : List ℕ)
+      → reportOf (startRecord (layout old) n b ++ (stepRecords (layout old) b es ++ (stepShowing (layout (not old)) e x c ++ t)))
+      ≡ record { number = BAD-RECORD; place = placeOf (layout old) (length es); steps = length es }
+  -- ---- checkers: two that meet the contract agree, and the report is what they answer; none that meets it
 
+  pub meets-once : (f g : List ℕ → Report) → MeetsBoth f → MeetsBoth g → (s : List ℕ) → Bytes s → f s ≡ g s
+  pub meets-report : MeetsBoth reportOf
   -- refuses all traces of a layout, or accepts all bytes
   pub not-refusing-all : (old : Bool) (f : List ℕ → Report) → RefusesTraces (layout old) f → MeetsBoth f → ⊥
   pub not-accepting-all : (f : List ℕ → Report) → AcceptsAll f → MeetsBoth f → ⊥

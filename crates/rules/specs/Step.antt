@@ -38,7 +38,8 @@ abbrev pub checked : ℕ → ℕ → ℕ → ℕ → ℕ → Found → Action
 checked lines cpsr scr hcr pc Nothing = Quiet lines
 checked lines cpsr scr hcr pc (First x) = takenBy x (interrupt.way x cpsr scr hcr pc)
 
--- by the words of a block: the A that an event is routed by, where an event or an interrupt goes, what a check of these lines finds, and what it comes to
+-- by the words of a block: the A that an event is routed by, where an event or an interrupt goes, what a check of these lines finds,
+-- and what it comes to
 abbrev pub routedIn : List ℕ → ℕ → ℕ → ℕ
 routedIn b code a = synchronous.routedA code a (word b CPSR) (word b SCR) (word b HDCR)
 
