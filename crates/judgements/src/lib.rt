@@ -93,7 +93,8 @@ pub fn seen_code(old: bool, code: u32, a: u32) -> u32
     code
 }
 
-// Whether a whole Step shows the answer in this buffer and, of this block of the machine's, what its layout has.
+// Whether a whole Step shows the answer in this buffer and, of this block of the machine's, what its layout has: what both have is
+// compared in one place, and HDCR behind it.
 fn shows(old: bool, r: &[u8], answer: &[u8], block: &[u8]) -> bool
     requires { ⌜ (stepSize (layout old) ≤ length (now r)) × (length (now answer) ≡ ANSWER-SIZE)
         × (length (now block) ≡ BLOCK-SIZE) ⌝ }
@@ -106,13 +107,19 @@ fn shows(old: bool, r: &[u8], answer: &[u8], block: &[u8]) -> bool
     if word_at(r, layout::VALUE) != get_word(answer, rules::answer::VALUE) {
         return false;
     }
-    if old {
-        return words::runs::same(
-            &r[layout::BLOCK_AFTER..layout::OLD_STEP_SIZE as usize],
-            &block[..OLD_BLOCK_SIZE],
-        );
+    if !words::runs::same(
+        &r[layout::BLOCK_AFTER..layout::OLD_STEP_SIZE as usize],
+        &block[..OLD_BLOCK_SIZE],
+    ) {
+        return false;
     }
-    words::runs::same(&r[layout::BLOCK_AFTER..layout::STEP_SIZE as usize], block)
+    if old {
+        return true;
+    }
+    words::runs::same(
+        &r[layout::OLD_STEP_SIZE as usize..layout::STEP_SIZE as usize],
+        &block[OLD_BLOCK_SIZE..],
+    )
 }
 
 // A Step after the block before, the machine's, which becomes the block after where the Step is right.
