@@ -2,7 +2,6 @@
 // fault's number, or ACCEPTED.
 use entry::code::NOTE;
 use entry::code::PREFETCH_ABORT;
-use entry::route::is_debug;
 use machine::step::ANSWER_SIZE;
 use machine::step::replay;
 use records::layout;
@@ -21,6 +20,7 @@ use state::place;
 use state::place::BLOCK_SIZE;
 use state::place::OLD_BLOCK_SIZE;
 use words::get_word;
+use words::runs;
 use words::word_at;
 ghost use mathlib.Core.Path.{_≡_};
 ghost use mathlib.Core.Bool.{true};
@@ -32,13 +32,15 @@ ghost use Rattle.rules.specs.Step.{ANSWER-SIZE};
 ghost use Rattle.state.specs.Place.{BLOCK-SIZE};
 ghost use Rattle.records.specs.Layout.{layout, stepSize};
 ghost use Rattle.records.specs.Report.{headNumber, startNumber, endNumber};
-ghost use Rattle.records.specs.Judged.{narrow, IsWide, SeenCode, Shows, JudgedWide, Went};
+ghost use Rattle.records.specs.Judged.{narrow, IsWide, SeenCode, Shows, ShowsBehind, JudgedWide, Went};
 
 // The number of a record, and of a trace, without a fault.
 pub const ACCEPTED: u32 = DONE;
 
-// A code that is none, and the place of HDCR as an operand.
+// A code that is none, the A of a debug abort, and the place of HDCR as an operand.
 const NO_CODE: u32 = 0;
+
+const DEBUG: u32 = 4;
 
 const HDCR_PLACE: u32 = place::HDCR as u32;
 
@@ -80,7 +82,7 @@ pub fn seen_code(old: bool, code: u32, a: u32) -> u32
         return code;
     }
     if code == PREFETCH_ABORT {
-        if is_debug(a) {
+        if a == DEBUG {
             return NO_CODE;
         }
         return code;
@@ -93,8 +95,21 @@ pub fn seen_code(old: bool, code: u32, a: u32) -> u32
     code
 }
 
-// Whether a whole Step shows the answer in this buffer and, of this block of the machine's, what its layout has: what both have is
-// compared in one place, and HDCR behind it.
+// Whether a whole Step shows HDCR of this block of the machine's, which an old one has not.
+fn shows_hdcr(old: bool, r: &[u8], block: &[u8]) -> bool
+    requires { ⌜ (stepSize (layout old) ≤ length (now r)) × (length (now block) ≡ BLOCK-SIZE) ⌝ }
+    ensures { λ t. ⌜ (t ≡ true) ↔ ShowsBehind old (now (r .entry)) (now (block .entry)) ⌝ }
+{
+    if !old {
+        return runs::same(
+            &r[layout::OLD_STEP_SIZE as usize..layout::STEP_SIZE as usize],
+            &block[OLD_BLOCK_SIZE..],
+        );
+    }
+    true
+}
+
+// Whether it shows the answer in this buffer and, of this block, what its layout has.
 fn shows(old: bool, r: &[u8], answer: &[u8], block: &[u8]) -> bool
     requires { ⌜ (stepSize (layout old) ≤ length (now r)) × (length (now answer) ≡ ANSWER-SIZE)
         × (length (now block) ≡ BLOCK-SIZE) ⌝ }
@@ -107,18 +122,12 @@ fn shows(old: bool, r: &[u8], answer: &[u8], block: &[u8]) -> bool
     if word_at(r, layout::VALUE) != get_word(answer, rules::answer::VALUE) {
         return false;
     }
-    if !words::runs::same(
-        &r[layout::BLOCK_AFTER..layout::OLD_STEP_SIZE as usize],
-        &block[..OLD_BLOCK_SIZE],
-    ) {
+    if !shows_hdcr(old, r, block) {
         return false;
     }
-    if old {
-        return true;
-    }
-    words::runs::same(
-        &r[layout::OLD_STEP_SIZE as usize..layout::STEP_SIZE as usize],
-        &block[OLD_BLOCK_SIZE..],
+    runs::same(
+        &r[layout::BLOCK_AFTER..layout::OLD_STEP_SIZE as usize],
+        &block[..OLD_BLOCK_SIZE],
     )
 }
 

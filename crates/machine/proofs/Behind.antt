@@ -14,7 +14,7 @@ use Rattle.state.specs.Mode.{MONITOR, HYP, isTarget, spsrPlace, lrPlace}
 use Rattle.state.specs.Number.{DONE}
 use Rattle.state.specs.Place.{PLACES, OLD-BLOCK-SIZE, CPSR, PC, SCR, HCR, HDCR}
 use Rattle.state.proofs.Test.{true-is-not-false}
-use Rattle.entry.specs.Code.{PREFETCH-ABORT, debug}
+use Rattle.entry.specs.Code.{PREFETCH-ABORT}
 use Rattle.entry.specs.Enter.{nsCleared, written, entered}
 use Rattle.entry.specs.Way.{Way, Barred, Enter}
 use Rattle.entry.proofs.Entered.{spsr-low, lr-low}
@@ -23,7 +23,7 @@ use Rattle.interrupts.specs.declared.exception.Exception.{Exception}
 use Rattle.interrupts.proofs.Laws.{found-cases}
 use Rattle.banked.specs.Cell.{cell}
 use Rattle.rules.specs.Event.{NOTE}
-use Rattle.rules.specs.Known.{unknownToOld}
+use Rattle.rules.specs.Known.{DEBUG, unknownToOld}
 use Rattle.rules.specs.Parts.{Sound}
 use Rattle.rules.specs.Refusal.{refusal}
 use Rattle.rules.specs.Step.{Action, Refuse, Take, Quiet, Read, Put, Return, takenBy, checkedIn, eventWay, interruptWay, vaCleared}
@@ -103,7 +103,7 @@ done-below b code a w p known =
     (λ e. tt)
     (λ e. let i = inside-registers a (write-a a w (rw e at (p .event))) (rw e at (p .register)) in omega arith)
     (λ e.
-    let note = rw e at (second-of (code is PREFETCH-ABORT && debug a) (code is NOTE && a is HDCR) known) in
+    let note = rw e at (second-of (code is PREFETCH-ABORT && a is DEBUG) (code is NOTE && a is HDCR) known) in
     not-there a (note-a a w (rw e at (p .event))) note)
     (λ e. tt)
     (λ o. taken-below _ (eventWay b code a))

@@ -6,6 +6,7 @@ use mathlib.Core.List.{List}
 use Prim.Native.Nat.{ℕ, zero, suc, _*_, _<_, _≤_}
 use lib.ListN.{length, take, drop}
 use Rattle.words.specs.Word.{spelt}
+use Rattle.state.specs.Place.{BLOCK-SIZE, OLD-BLOCK-SIZE}
 use Rattle.rules.specs.Known.{seen}
 use Rattle.rules.specs.declared.event.Event.{Event}
 use Rattle.rules.specs.declared.verdict.Answer.{Answer}
@@ -18,6 +19,11 @@ pub record Shows (L : Layout) (r : List ℕ) (x : Answer) (c : List ℕ) : Type 
   pub number : spelt r numberAt ≡ x .number
   pub value : spelt r valueAt ≡ x .value
   pub block : take (L .size) (drop blockAfterAt r) ≡ c
+
+-- what stands there behind an old block is what stands behind it in c; an old Step has nothing there
+abbrev pub ShowsBehind : Bool → List ℕ → List ℕ → Type 0
+ShowsBehind true r c = Unit {0}
+ShowsBehind false r c = drop OLD-BLOCK-SIZE (take BLOCK-SIZE (drop blockAfterAt r)) ≡ drop OLD-BLOCK-SIZE c
 
 -- a block of either layout as the machine has it, c being the machine's
 abbrev pub wide : Bool → List ℕ → List ℕ

@@ -4,16 +4,20 @@ use mathlib.Core.Bool.{Bool, _&&_, _||_}
 use Prim.Native.Nat.{ℕ}
 use Rattle.state.specs.Choice.{if_then_else_, _is_}
 use Rattle.state.specs.Place.{HDCR}
-use Rattle.entry.specs.Code.{PREFETCH-ABORT, debug}
+use Rattle.entry.specs.Code.{PREFETCH-ABORT}
 use Rattle.rules.specs.Event.{Event, NOTE}
 
 -- a code that is none
 abbrev pub NO-CODE : ℕ
 NO-CODE = 0
 
+-- A of a debug abort: of the values that have the bit it is the one in range
+abbrev pub DEBUG : ℕ
+DEBUG = 4
+
 -- "there debug and notes on place 44 are BAD_EVENT"
 abbrev pub unknownToOld : Event → Bool
-unknownToOld e = (e .code is PREFETCH-ABORT && debug (e .a)) || (e .code is NOTE && e .a is HDCR)
+unknownToOld e = (e .code is PREFETCH-ABORT && e .a is DEBUG) || (e .code is NOTE && e .a is HDCR)
 
 -- the event as a layout sees it, the old one or the new, which knows all
 unfoldable pub seen : Bool → Event → Event

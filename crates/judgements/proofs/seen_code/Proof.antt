@@ -6,16 +6,15 @@ use borrow.Author.Needs.{needs}
 use borrow.Author.Tests.{eq-eqb, ne-eqb, not-true, not-false}
 use Rattle.state.specs.Choice.{if_then_else_, _is_}
 use Rattle.state.specs.Place.{HDCR}
-use Rattle.state.proofs.Test.{told}
-use Rattle.entry.specs.Code.{PREFETCH-ABORT, debug}
+use Rattle.entry.specs.Code.{PREFETCH-ABORT}
 use Rattle.rules.specs.Event.{NOTE}
-use Rattle.rules.specs.Known.{NO-CODE, unknownToOld, seen}
+use Rattle.rules.specs.Known.{NO-CODE, DEBUG, unknownToOld, seen}
 use Rattle.rules.specs.declared.event.Event.{Event}
 use Rattle.judgements.proofs.seen_code.Statement.{statement}
 use Rattle.judgements.proofs.seen_code.Tie as tie
 
 -- by whether the layout is old, and what the event is
-by-tests : (old : Bool) (code a w : ℕ) {x y z u v : Bool} → old ≡ x → (code is PREFETCH-ABORT) ≡ y → debug a ≡ z → (code is NOTE) ≡ u
+by-tests : (old : Bool) (code a w : ℕ) {x y z u v : Bool} → old ≡ x → (code is PREFETCH-ABORT) ≡ y → (a is DEBUG) ≡ z → (code is NOTE) ≡ u
     → (a is HDCR) ≡ v
     → _≡_ {A = Event} (record { code = (if x && ((y && z) || (u && v)) then NO-CODE else code); a = a; b = w })
     (seen old (record { code = code; a = a; b = w }))
@@ -37,15 +36,13 @@ seen-code-spec =
     tie.close
     (tie.spec
     (λ c w. by-tests _ _ _ w (not-true _ (c .if1 .taken)) refl refl refl refl)
-    (λ c κs. search needs)
     (λ c w.
-    let abort = c .before .before in
-    by-tests _ _ _ w (not-false _ (abort .before .if1 .left)) (eq-eqb _ _ (abort .if2 .taken))
-    (told (c .before .is-debug .ensures) (c .if3 .taken)) refl refl)
+    let abort = c .before in
+    by-tests _ _ _ w (not-false _ (abort .before .if1 .left)) (eq-eqb _ _ (abort .if2 .taken)) (eq-eqb _ _ (c .if3 .taken)) refl refl)
     (λ c w.
-    let abort = c .before .before in
-    by-tests _ _ _ w (not-false _ (abort .before .if1 .left)) (eq-eqb _ _ (abort .if2 .taken))
-    (told (c .before .is-debug .ensures) (c .if3 .left)) (not-a-note (abort .if2 .taken)) refl)
+    let abort = c .before in
+    by-tests _ _ _ w (not-false _ (abort .before .if1 .left)) (eq-eqb _ _ (abort .if2 .taken)) (ne-eqb _ _ (c .if3 .left))
+    (not-a-note (abort .if2 .taken)) refl)
     (λ c w.
     let other = c .before .before in
     by-tests _ _ _ w (not-false _ (other .before .if1 .left)) (ne-eqb _ _ (other .if2 .left)) refl
