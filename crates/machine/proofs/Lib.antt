@@ -6,6 +6,7 @@ pub mod Numbers
 pub mod Leaving
 pub mod Debugging
 pub mod Denying
+pub mod Guest
 pub mod Returning
 pub mod Checking
 pub mod Tabled
