@@ -1,15 +1,15 @@
 -- A Non-secure EL1 mode is allowed no access at an exempt place, which is tried at each of the 64 cells and in each of the six modes:
 -- so an access comes to the same on two blocks that are alike outside, and reads and writes there alone.
 use mathlib.Core.Path.{_≡_, refl, sym, ap, _∙_}
-use mathlib.Core.Bool.{Bool, true, false, not, _&&_}
+use mathlib.Core.Bool.{Bool, true, false, not}
 use mathlib.Core.List.{List, [], _∷_}
-use Prim.Native.Nat.{ℕ, zero, suc, _+_, _*_, _/_, _<_}
+use Prim.Native.Nat.{ℕ, zero, suc, _+_, _*_, _<_}
 use native.Mathlib.Omega.{arith}
-use lib.ListN.{length, getD, take}
-use borrow.Author.Tests.{eqb-true, eqb-false, eq-eqb, not-false, not-true}
+use lib.ListN.{length, take}
+use borrow.Author.Tests.{eqb-true, eqb-false, not-true}
 use Rattle.words.specs.Word.{spelt, word, put}
 use Rattle.words.proofs.Laws.{length-put, byte-other, byte-alike, word-put-other}
-use Rattle.state.specs.Choice.{if_then_else_, _is_, _among_}
+use Rattle.state.specs.Choice.{if_then_else_, _is_}
 use Rattle.state.specs.Field.{mode-field}
 use Rattle.state.specs.Mode.{el1-modes, el1}
 use Rattle.state.specs.Number.{DONE, BAD-EVENT, NO-REGISTER}
@@ -26,7 +26,7 @@ use Rattle.rules.specs.declared.event.Event.{Event}
 use Rattle.rules.specs.Verdict.{answerFor}
 use Rattle.rules.specs.declared.verdict.Answer.{Answer}
 use Rattle.rules.specs.declared.verdict.Verdict.the-variants.{Register}
-use Rattle.rules.proofs.Deciding.{accessed, bad-event, at-read, at-write, unlike}
+use Rattle.rules.proofs.Deciding.{accessed, bad-event, at-read, at-write}
 use Rattle.rules.proofs.Sound.{read-a, write-a, inside-registers}
 use Rattle.machine.specs.Guest.{exempt, placeOf, Alike, Guest, Guests, AllBanked, KeptInside, NothingCarried}
 
@@ -134,10 +134,6 @@ module _ (cpsr scr : ℕ) (m : el1 (mode-field cpsr) ≡ true) (s : secure cpsr 
 
 -- ---- words and bytes of blocks that are alike
 
--- the four bytes of a place belong to it
-in-place : (p k : ℕ) → k < 4 → placeOf (4 * p + k) ≡ p
-in-place p k l = omega arith
-
 module _ {b c : List ℕ} (h : Alike b c) where
   same-word : (p : ℕ) → p < PLACES → exempt p ≡ false → word b p ≡ word c p
   unfolding spelt
@@ -198,7 +194,7 @@ module _ (b : List ℕ) (p w : ℕ) (n : (CPSR ≡ p → ⊥) × (SCR ≡ p → 
 
 -- ---- one step
 
-record Stepped (b c : List ℕ) (x : Answer) (y : Answer) (b′ c′ : List ℕ) : Type 0 where
+record Stepped (b c : List ℕ) (x y : Answer) (b′ c′ : List ℕ) : Type 0 where
   same-answer : x ≡ y
   guests : Guests b′ c′
   first-keeps : KeptInside b b′
@@ -282,21 +278,23 @@ nothing-carried b c es g k =
 
 -- ---- any word at an exempt place
 
-pub any-word-inside : (b : List ℕ) (p w : ℕ) → length b ≡ BLOCK-SIZE → Guest b → exempt p ≡ true → Guests b (put b p w)
-unfolding exempt
-any-word-inside b p w l g x =
-    let n : (CPSR ≡ p → ⊥) × (SCR ≡ p → ⊥) × (HCR ≡ p → ⊥) = (
-      λ e. two-places {p = CPSR} {q = p} refl x (sym e),
-      λ e. two-places {p = SCR} {q = p} refl x (sym e),
-      λ e. two-places {p = HCR} {q = p} refl x (sym e),
-    ) in
-    record {
-      first = g;
-      second = put-guest b p w n g;
-      same-mode = sym (put-mode b p w n);
-      alike = record {
-        first-size = l;
-        second-size = length-put b p w ∙ l;
+module _ (b : List ℕ) (p w : ℕ) (size : length b ≡ BLOCK-SIZE) (x : exempt p ≡ true) where
+  pub inside-alike : Alike b (put b p w)
+  inside-alike =
+      record {
+        first-size = size;
+        second-size = length-put b p w ∙ size;
         outside = λ j i y. sym (byte-other b p w j (λ e. two-places y x (sym e)));
-      };
-    }
+      }
+
+  pub any-word-inside : Guest b → Guests b (put b p w)
+  unfolding exempt
+  any-word-inside g =
+      let other : (q : ℕ) → exempt q ≡ false → q ≡ p → ⊥ = λ q y e. two-places y x (sym e) in
+      let n : (CPSR ≡ p → ⊥) × (SCR ≡ p → ⊥) × (HCR ≡ p → ⊥) = (other CPSR refl, other SCR refl, other HCR refl) in
+      record {
+        first = g;
+        second = put-guest b p w n g;
+        same-mode = sym (put-mode b p w n);
+        alike = inside-alike;
+      }

@@ -15,4 +15,5 @@ pub mod Entering
 pub mod Walk
 pub mod Theorems
 pub mod Cases
+pub mod Differing
 pub mod Wrong
