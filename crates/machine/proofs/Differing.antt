@@ -7,7 +7,6 @@ use borrow.Author.Tests.{eqb-false}
 use Rattle.words.specs.Word.{spelt, word, put}
 use Rattle.words.proofs.Laws.{word-put-other}
 use Rattle.state.specs.Mode.{SUPERVISOR, MONITOR, known, el1, isTarget, spsrPlace}
-use Rattle.state.specs.Number.{DONE}
 use Rattle.state.specs.Place.{BLOCK-SIZE, SP-usr, SP-hyp}
 use Rattle.state.specs.State.{good, fault, faultOf}
 use Rattle.entry.specs.Route as synchronous
@@ -20,9 +19,9 @@ use Rattle.rules.specs.Run.{runBy, answersBy}
 use Rattle.rules.specs.Step.{doneAction, action, answer, after}
 use Rattle.rules.specs.Verdict.{value}
 use Rattle.rules.specs.declared.event.Event.{Event}
-use Rattle.machine.specs.Guest.{exempt, Guest, ToldApart, Example, MonitorLearns, PlaceTells, GuestTheorems}
+use Rattle.machine.specs.Guest.{exempt, Guest, Example, MonitorLearns, PlaceTells}
 use Rattle.machine.proofs.Cases.{block, with}
-use Rattle.machine.proofs.Guest.{nothing-carried, inside-alike, any-word-inside}
+use Rattle.machine.proofs.Guest.{inside-alike, any-word-inside}
 
 -- a word at SP_usr and nothing at SP_hyp, with NS 1; and another word, that one of the two gets
 abbrev start : ℕ → List ℕ
@@ -96,15 +95,4 @@ place-tells =
       same-mode = refl;
       elsewhere = λ q n. sym (word-put-other (start SUPERVISOR) SP-usr another q n);
       apart = record { banked = refl; first-done = refl; second-done = refl; values-differ = eqb-false 0x1000 another refl };
-    }
-
-pub theorems : GuestTheorems
-theorems =
-    record {
-      numbered = refl;
-      nothing-carried = nothing-carried;
-      any-word-inside = λ b p w size g x. any-word-inside b p w size x g;
-      example = example;
-      monitor-learns = monitor-learns;
-      place-tells = place-tells;
     }

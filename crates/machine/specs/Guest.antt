@@ -138,7 +138,7 @@ pub record GuestTheorems : Type 0 where
   pub numbered : exempt-places ≡ 22 ∷ 23 ∷ 24 ∷ 25 ∷ 31 ∷ 32 ∷ 37 ∷ 39 ∷ 40 ∷ 42 ∷ 43 ∷ []
   pub nothing-carried : (b c : List ℕ) (es : List Event) → Guests b c → AllBanked es → NothingCarried b c es
   -- it speaks of every guest: whatever word an exempt place gets, the block before and the block after are two such blocks
-  pub any-word-inside : (b : List ℕ) (p w : ℕ) → length b ≡ BLOCK-SIZE → Guest b → exempt p ≡ true → Guests b (put b p w)
+  pub any-word-inside : (b : List ℕ) (p w : ℕ) → length b ≡ BLOCK-SIZE → exempt p ≡ true → Guest b → Guests b (put b p w)
   pub example : Example
   pub monitor-learns : MonitorLearns
   pub place-tells : PlaceTells
