@@ -2,7 +2,6 @@
 use mathlib.Core.Path.{_≡_, sym, ap, _∙_}
 use mathlib.Core.Bool.{Bool, true}
 use mathlib.Core.List.{List}
-use Prim.Native.Nat.{ℕ}
 use lib.ListN.{length, take}
 use lib.Seq.{take-length}
 use borrow.Author.Tests.{eq-eqb}
@@ -10,9 +9,8 @@ use Rattle.state.specs.Choice.{if_then_else_}
 use Rattle.state.specs.Number.{DONE, BAD-SIZE}
 use Rattle.state.specs.Place.{BLOCK-SIZE}
 use Rattle.rules.specs.declared.event.Event.{Event}
-use Rattle.rules.specs.declared.verdict.Answer.{Answer}
 use Rattle.rules.specs.Run.{run, answers}
-use Rattle.machine.specs.Guest.{Alike, Guests, AllBanked, KeptInside}
+use Rattle.machine.specs.Guest.{Guests, AllBanked}
 use Rattle.machine.proofs.Guest.{nothing-carried}
 use Rattle.console.specs.Batch.{suits}
 use Rattle.console.specs.Guest.{Call, SameToBoth, GuestTheorems}

@@ -59,9 +59,11 @@ allowed-outside a cpsr scr l m s h =
 
 -- ---- what an access comes to, by CPSR, SCR and its three words
 
+-- where nothing refuses it
 abbrev itself : ℕ → ℕ → ℕ → Action
 itself code a w = if code is BANKED-READ then Read (cell a) else Put (cell a) w
 
+-- and in all
 abbrev comesTo : ℕ → ℕ → ℕ → ℕ → ℕ → Action
 comesTo cpsr scr code a w = if badEvent code a w then Refuse BAD-EVENT else accessed (cell a) (right (cell a) cpsr scr) (itself code a w)
 
@@ -75,7 +77,7 @@ by-access P read write code h = by (code is BANKED-READ) refl (code is BANKED-WR
     by false e true f k = rw (eqb-true code BANKED-WRITE f) write
     by false e false f k = absurd (true-is-not-false k refl)
 
--- its operands are bad, or it is accessed
+-- what holds of the refusal for bad operands, and of x where they are good, holds of the two together
 by-operands : (P : Action → Type 0) (code a w : ℕ) {x : Action} → (badEvent code a w ≡ true → P (Refuse BAD-EVENT))
     → (badEvent code a w ≡ false → P x)
     → P (if badEvent code a w then Refuse BAD-EVENT else x)
@@ -176,58 +178,74 @@ module _ (b : List ℕ) (p w : ℕ) (x : exempt p ≡ false) where
         words = λ q y. word-put-other b p w q (λ e. two-places x y (sym e));
       }
 
--- a word that is none of the three by which a guest is told leaves a guest
-guest-by : {b c : List ℕ} → word c CPSR ≡ word b CPSR → word c SCR ≡ word b SCR → word c HCR ≡ word b HCR → Guest b → Guest c
-unfolding fault
-guest-by {b} {c} ec es eh g =
-    record { good = rw (ec, es, eh) (g .good); non-secure = rw (ec, es) (g .non-secure); in-el1 = rw ec (g .in-el1) }
+-- ---- what a guest is told by
 
-module _ (b : List ℕ) (p w : ℕ) (n : (CPSR ≡ p → ⊥) × (SCR ≡ p → ⊥) × (HCR ≡ p → ⊥)) where
+-- a place that is none of the three words
+record Beside (p : ℕ) : Type 0 where
+  cpsr : CPSR ≡ p → ⊥
+  scr : SCR ≡ p → ⊥
+  hcr : HCR ≡ p → ⊥
+
+module _ (b : List ℕ) (p w : ℕ) (n : Beside p) where
   kept-word : (q : ℕ) → (q ≡ p → ⊥) → word (put b p w) q ≡ word b q
   kept-word q d = word-put-other b p w q (λ e. d (sym e))
 
   put-guest : Guest b → Guest (put b p w)
-  put-guest = guest-by (kept-word CPSR (n .0)) (kept-word SCR (n .1)) (kept-word HCR (n .2))
+  unfolding fault
+  put-guest g =
+      let cpsr = kept-word CPSR (n .cpsr) in
+      let scr = kept-word SCR (n .scr) in
+      let hcr = kept-word HCR (n .hcr) in
+      record {
+        good = rw (cpsr, scr, hcr) (g .good);
+        non-secure = rw (cpsr, scr) (g .non-secure);
+        in-el1 = rw cpsr (g .in-el1);
+      }
 
   put-mode : mode-field (word (put b p w) CPSR) ≡ mode-field (word b CPSR)
-  put-mode = ap mode-field (kept-word CPSR (n .0))
+  put-mode = ap mode-field (kept-word CPSR (n .cpsr))
 
--- ---- one step
+-- ---- from two blocks to two others
 
-record Stepped (b c : List ℕ) (x y : Answer) (b′ c′ : List ℕ) : Type 0 where
-  same-answer : x ≡ y
+record Moved (b c b′ c′ : List ℕ) : Type 0 where
   guests : Guests b′ c′
   first-keeps : KeptInside b b′
   second-keeps : KeptInside c c′
 
-module _ (b c : List ℕ) (g : Guests b c) where
-  unmoved : {x y : Answer} → x ≡ y → Stepped b c x y b c
-  unmoved e = record { same-answer = e; guests = g; first-keeps = kept-same b; second-keeps = kept-same c }
+stood : {b c : List ℕ} → Guests b c → Moved b c b c
+stood {b} {c} g = record { guests = g; first-keeps = kept-same b; second-keeps = kept-same c }
 
-  by-action : (x : Action) → Outside x → Stepped b c (answerTo b x) (answerTo c x) (blockAfter b x) (blockAfter c x)
-  by-action (Refuse n) o = unmoved refl
+moved-then : {b c b′ c′ b″ c″ : List ℕ} → Moved b c b′ c′ → Moved b′ c′ b″ c″ → Moved b c b″ c″
+moved-then m n =
+    record {
+      guests = n .guests;
+      first-keeps = kept-then (m .first-keeps) (n .first-keeps);
+      second-keeps = kept-then (m .second-keeps) (n .second-keeps);
+    }
+
+-- ---- one step
+
+module _ (b c : List ℕ) (g : Guests b c) where
+  by-action : (x : Action) → Outside x → (answerTo b x ≡ answerTo c x) × Moved b c (blockAfter b x) (blockAfter c x)
+  by-action (Refuse n) o = (refl, stood g)
   by-action (Take x to offset link) o = absurd o
   by-action (Quiet lines) o = absurd o
-  by-action (Read p) o = unmoved (ap told (same-word (g .alike) p (omega arith) (o .1)))
+  by-action (Read p) o = (ap told (same-word (g .alike) p (omega arith) (o .1)), stood g)
     where
       told : ℕ → Answer
       told v = answerFor (Register v)
   by-action (Put p w) o =
-      let n : (CPSR ≡ p → ⊥) × (SCR ≡ p → ⊥) × (HCR ≡ p → ⊥) = (λ e. omega arith, λ e. omega arith, λ e. omega arith) in
-      record {
-        same-answer = refl;
-        guests = record {
-          first = put-guest b p w n (g .first);
-          second = put-guest c p w n (g .second);
-          same-mode = put-mode b p w n ∙ g .same-mode ∙ sym (put-mode c p w n);
-          alike = put-alike (g .alike) p w;
-        };
-        first-keeps = put-keeps b p w (o .1);
-        second-keeps = put-keeps c p w (o .1);
-      }
+      let n : Beside p = record { cpsr = λ e. omega arith; scr = λ e. omega arith; hcr = λ e. omega arith } in
+      let both : Guests (put b p w) (put c p w) = record {
+        first = put-guest b p w n (g .first);
+        second = put-guest c p w n (g .second);
+        same-mode = put-mode b p w n ∙ g .same-mode ∙ sym (put-mode c p w n);
+        alike = put-alike (g .alike) p w;
+      } in
+      (refl, record { guests = both; first-keeps = put-keeps b p w (o .1); second-keeps = put-keeps c p w (o .1) })
   by-action (Return cpsr pc) o = absurd o
 
-  one-step : (e : Event) → isBanked (e .code) ≡ true → Stepped b c (answer b e) (answer c e) (after b e) (after c e)
+  one-step : (e : Event) → isBanked (e .code) ≡ true → (answer b e ≡ answer c e) × Moved b c (after b e) (after c e)
   unfolding answer after exempt
   one-step e k =
       let cpsr : word b CPSR ≡ word c CPSR = same-word (g .alike) CPSR (omega arith) refl in
@@ -235,8 +253,8 @@ module _ (b c : List ℕ) (g : Guests b c) where
       let x = comesTo (word b CPSR) (word b SCR) (e .code) (e .a) (e .b) in
       let on-b : action b e ≡ x = comes-to b (g .alike .first-size) (g .first .good) (e .a) (e .b) (e .code) k in
       let on-c : action c e ≡ x = rw (cpsr, scr) (comes-to c (g .alike .second-size) (g .second .good) (e .a) (e .b) (e .code) k) in
-      rw (on-b, on-c)
-      (by-action x (comes-outside (word b CPSR) (word b SCR) (g .first .in-el1) (g .first .non-secure) (e .a) (e .b) (e .code) k))
+      let outside = comes-outside (word b CPSR) (word b SCR) (g .first .in-el1) (g .first .non-secure) (e .a) (e .b) (e .code) k in
+      rw (on-b, on-c) (by-action x outside)
 
 -- ---- a list of them, and the first n of a list
 
@@ -245,56 +263,44 @@ unfolding answersBy
 same-answers b c [] g k = refl
 same-answers b c (e ∷ es) g k =
     let s = one-step b c g e (k .0) in
-    let rest = same-answers (after b e) (after c e) es (s .guests) (k .1) in
-    λ i. s .same-answer i ∷ rest i
+    let rest = same-answers (after b e) (after c e) es (s .1 .guests) (k .1) in
+    λ i. s .0 i ∷ rest i
 
-record Ran (b c b′ c′ : List ℕ) : Type 0 where
-  guests : Guests b′ c′
-  first-keeps : KeptInside b b′
-  second-keeps : KeptInside c c′
-
-ran : (n : ℕ) (b c : List ℕ) (es : List Event) → Guests b c → AllBanked es → Ran b c (run b (take n es)) (run c (take n es))
+ran : (n : ℕ) (b c : List ℕ) (es : List Event) → Guests b c → AllBanked es → Moved b c (run b (take n es)) (run c (take n es))
 unfolding runBy
-ran zero b c es g k = record { guests = g; first-keeps = kept-same b; second-keeps = kept-same c }
-ran (suc n) b c [] g k = record { guests = g; first-keeps = kept-same b; second-keeps = kept-same c }
+ran zero b c es g k = stood g
+ran (suc n) b c [] g k = stood g
 ran (suc n) b c (e ∷ es) g k =
     let s = one-step b c g e (k .0) in
-    let r = ran n (after b e) (after c e) es (s .guests) (k .1) in
-    record {
-      guests = r .guests;
-      first-keeps = kept-then (s .first-keeps) (r .first-keeps);
-      second-keeps = kept-then (s .second-keeps) (r .second-keeps);
-    }
+    moved-then (s .1) (ran n (after b e) (after c e) es (s .1 .guests) (k .1))
 
 pub nothing-carried : (b c : List ℕ) (es : List Event) → Guests b c → AllBanked es → NothingCarried b c es
 nothing-carried b c es g k =
+    let moved : (n : ℕ) → Moved b c (run b (take n es)) (run c (take n es)) = λ n. ran n b c es g k in
     record {
       same-answers = same-answers b c es g k;
-      stay-alike = λ n. ran n b c es g k .guests .alike;
-      first-keeps = λ n. ran n b c es g k .first-keeps;
-      second-keeps = λ n. ran n b c es g k .second-keeps;
-      stay-guests = λ n. ran n b c es g k .guests;
+      stay-alike = λ n. moved n .guests .alike;
+      first-keeps = λ n. moved n .first-keeps;
+      second-keeps = λ n. moved n .second-keeps;
+      stay-guests = λ n. moved n .guests;
     }
 
 -- ---- any word at an exempt place
 
 module _ (b : List ℕ) (p w : ℕ) (size : length b ≡ BLOCK-SIZE) (x : exempt p ≡ true) where
+  other : (q : ℕ) → exempt q ≡ false → q ≡ p → ⊥
+  other q y e = two-places y x (sym e)
+
   pub inside-alike : Alike b (put b p w)
   inside-alike =
       record {
         first-size = size;
         second-size = length-put b p w ∙ size;
-        outside = λ j i y. sym (byte-other b p w j (λ e. two-places y x (sym e)));
+        outside = λ j i y. sym (byte-other b p w j (other (placeOf j) y));
       }
 
   pub any-word-inside : Guest b → Guests b (put b p w)
   unfolding exempt
   any-word-inside g =
-      let other : (q : ℕ) → exempt q ≡ false → q ≡ p → ⊥ = λ q y e. two-places y x (sym e) in
-      let n : (CPSR ≡ p → ⊥) × (SCR ≡ p → ⊥) × (HCR ≡ p → ⊥) = (other CPSR refl, other SCR refl, other HCR refl) in
-      record {
-        first = g;
-        second = put-guest b p w n g;
-        same-mode = sym (put-mode b p w n);
-        alike = inside-alike;
-      }
+      let n : Beside p = record { cpsr = other CPSR refl; scr = other SCR refl; hcr = other HCR refl } in
+      record { first = g; second = put-guest b p w n g; same-mode = sym (put-mode b p w n); alike = inside-alike }
