@@ -1,10 +1,10 @@
 -- Two guests that differ at SP_hyp, two blocks in Monitor that do, and two guests that differ at SP_usr: antt computes what they answer.
-use mathlib.Core.Path.{_≡_, refl, sym, ap}
+use mathlib.Core.Path.{_≡_, refl, sym}
 use mathlib.Core.List.{List, [], _∷_}
 use Prim.Native.Nat.{ℕ}
 use lib.ListN.{length}
 use borrow.Author.Tests.{eqb-false}
-use Rattle.words.specs.Word.{spelt, word, put}
+use Rattle.words.specs.Word.{spelt, put}
 use Rattle.words.proofs.Laws.{word-put-other}
 use Rattle.state.specs.Mode.{SUPERVISOR, MONITOR, known, el1, isTarget, spsrPlace}
 use Rattle.state.specs.Place.{BLOCK-SIZE, SP-usr, SP-hyp}
@@ -53,12 +53,14 @@ unfolding spelt put known el1 isTarget spsrPlace good exempt wrongA synchronous.
     right badEvent refusal doneAction action answer after value runBy answersBy
 example =
     record {
+      place = SP-hyp;
       one = start SUPERVISOR;
       other = put (start SUPERVISOR) SP-hyp another;
       list = read-SP-usr ∷ [];
       read = 0x1000;
       guests = any-word-inside (start SUPERVISOR) SP-hyp another (sized SUPERVISOR) refl supervisor;
-      differ = λ e. eqb-false 0 another refl (ap (λ (b : List ℕ). word b SP-hyp) e);
+      inside = refl;
+      differ = eqb-false 0 another refl;
       all-banked = (refl, tt);
       reads = refl;
       not-zero = eqb-false 0x1000 0 refl;

@@ -84,7 +84,7 @@ pub record NothingCarried (b c : List ℕ) (es : List Event) : Type 0 where
   pub second-keeps : (n : ℕ) → KeptInside c (run c (take n es))
   pub stay-guests : (n : ℕ) → Guests (run b (take n es)) (run c (take n es))
 
--- ---- where it would fail
+-- ---- that it says something: an example, and where it would fail
 
 -- one access that is done on both blocks tells them apart
 pub record ToldApart (b c : List ℕ) (e : Event) : Type 0 where
@@ -93,14 +93,16 @@ pub record ToldApart (b c : List ℕ) (e : Event) : Type 0 where
   pub second-done : answer c e .number ≡ DONE
   pub values-differ : answer b e .value ≡ answer c e .value → ⊥
 
--- two such blocks that differ, and a list that reads a word which is not 0
+-- two such blocks that differ, at an exempt place, and a list that reads a word which is not 0
 pub record Example : Type 0 where
+  pub place : ℕ
   pub one : List ℕ
   pub other : List ℕ
   pub list : List Event
   pub read : ℕ
   pub guests : Guests one other
-  pub differ : one ≡ other → ⊥
+  pub inside : exempt place ≡ true
+  pub differ : word one place ≡ word other place → ⊥
   pub all-banked : AllBanked list
   pub reads : answers one list ≡ answerFor (Register read) ∷ []
   pub not-zero : read ≡ 0 → ⊥
