@@ -1,10 +1,11 @@
 /*
  * Checked Steps to be counted: one call over a prepared honest trace.
  *
- *     check_loop prepare FILE     records the trace: all codes alike often, nine Steps in ten done; what is
- *                                 refused is mostly HVC and Hyp Trap, which few blocks of a trace let happen
- *     check_loop count WHO FILE   judges it once; WHO: nothing, ours, c, memcmp, bytes
- *     check_loop time WHO FILE    prints nanoseconds a Step
+ *     check_loop prepare FILE       records the trace: all codes alike often, nine Steps in ten done; what is
+ *                                   refused is mostly HVC and Hyp Trap, which few blocks of a trace let happen
+ *     check_loop prepare-old FILE   records one like it in the old layout
+ *     check_loop count WHO FILE     judges it once; WHO: nothing, ours, c, memcmp, bytes
+ *     check_loop time WHO FILE      prints nanoseconds a Step
  */
 #include "enabled.h"
 #include "prepared.h"
@@ -17,19 +18,14 @@
 #include <stdio.h>
 #include <string.h>
 
-/* Where the parts of a Step begin. */
-enum {
-    EVENT_AT = 4,
-    ANSWER_AT = 16,
-    BLOCK_AT = 24
-};
-
 /* How often an event of a code is sought that ends as wanted; from some blocks there is none. */
 #define TRIES 20
 
 typedef uint32_t check_function(const uint8_t *, size_t, uint8_t *, size_t);
 
+/* The trace has the bytes of one of the new layout, or fewer. */
 static uint8_t trace[TRACE_SIZE];
+static size_t trace_len;
 static check_function *check;
 static uint32_t number;
 
@@ -47,9 +43,9 @@ static uint32_t compare_bytes(const uint8_t *bytes, size_t length, uint8_t *repo
     uint32_t same = 0;
 
     (void)report, (void)report_len;
-    for (size_t place = POMURICA_START_SIZE + ANSWER_AT; place < length; place += POMURICA_STEP_SIZE) {
+    for (size_t place = POMURICA_START_SIZE + STEP_ANSWER; place < length; place += POMURICA_STEP_SIZE) {
         __asm__ volatile("" : : "r"(outcome) : "memory"); /* a step would have written it: read anew */
-        same += is_same(bytes + place, outcome);
+        same += is_same(bytes + place, outcome, OUTCOME_SIZE);
     }
     return same;
 }
@@ -65,11 +61,6 @@ static check_function *check_of(const char *who)
     return strcmp(who, "bytes") == 0 ? compare_bytes : nothing;
 }
 
-static void put_head(uint8_t *record, uint32_t length, uint32_t kind)
-{
-    put_word(record, length | kind << 16);
-}
-
 /* A note that moves to another mode or another state: else a trace stays where an entry left it. */
 static void move_on(struct chance *chance, struct step_case *step)
 {
@@ -82,16 +73,19 @@ static void move_on(struct chance *chance, struct step_case *step)
     }
 }
 
-/* Whether an event of the code is found that ends as wanted; its answer and block are then in the record. */
+/*
+ * Whether an event of the code is found that ends as wanted; its answer is then in the record, and the block after it
+ * in `after`.  What the layout does not know is not among the events of chance.
+ */
 static bool find_event(struct chance *chance, uint32_t code, bool wanted, struct step_case *step,
-                       uint8_t *record)
+                       uint8_t *record, uint8_t *after)
 {
     for (int i = 0; i < TRIES; i++) {
         choose_event(chance, code, wanted, step);
         if (code == CODE_NOTE && one_in(chance, 2))
             move_on(chance, step);
         keep_calls(&step->event);
-        if (is_done(step, record + BLOCK_AT, record + ANSWER_AT) == wanted)
+        if (is_done(step, after, record + STEP_ANSWER) == wanted)
             return true;
     }
     return false;
@@ -113,36 +107,48 @@ static uint32_t next_code(const uint32_t *used, uint32_t tried)
 static void record_step(struct chance *chance, bool wanted, struct step_case *step, uint8_t *record)
 {
     static uint32_t used[CODES];
+    uint8_t after[BLOCK_SIZE];
     uint32_t tried = 0, code;
 
     do {
         code = next_code(used, tried);
         tried |= UINT32_C(1) << code;
-    } while (!find_event(chance, code, wanted, step, record));
+    } while (!find_event(chance, code, wanted, step, record, after));
     used[code]++;
-    put_head(record, POMURICA_STEP_SIZE, 2);
-    put_word(record + EVENT_AT, step->event.code);
-    put_word(record + EVENT_AT + 4, step->event.a);
-    put_word(record + EVENT_AT + 8, step->event.b);
-    memcpy(step->block, record + BLOCK_AT, BLOCK_SIZE);
+    put_word(record, chance->old ? POMURICA_OLD_STEP_HEAD : POMURICA_STEP_HEAD);
+    put_word(record + STEP_CODE, step->event.code);
+    put_word(record + STEP_A, step->event.a);
+    put_word(record + STEP_B, step->event.b);
+    memcpy(record + STEP_BLOCK, after, chance->old ? OLD_BLOCK_SIZE : BLOCK_SIZE);
+    memcpy(step->block, after, BLOCK_SIZE);
 }
 
 /* The whole trace. */
-static void record(void)
+static void record(bool old)
 {
-    struct chance chance = { 1 };
-    uint8_t *at = trace + POMURICA_START_SIZE;
+    const size_t step_size = old ? POMURICA_OLD_STEP_SIZE : POMURICA_STEP_SIZE;
+    struct chance chance = { .seed = 1, .old = old };
+    uint8_t *at = trace + (old ? POMURICA_OLD_START_SIZE : POMURICA_START_SIZE);
     struct step_case step;
 
     good_block(&chance, step.block);
     enable_calls(step.block);
-    put_head(trace, POMURICA_START_SIZE, 1);
-    put_word(trace + 4, STEPS);
-    memcpy(trace + 8, step.block, BLOCK_SIZE);
-    for (uint32_t i = 0; i < STEPS; i++, at += POMURICA_STEP_SIZE)
+    put_word(trace, old ? POMURICA_OLD_START_HEAD : POMURICA_START_HEAD);
+    put_word(trace + START_COUNT, STEPS);
+    memcpy(trace + START_BLOCK, step.block, old ? OLD_BLOCK_SIZE : BLOCK_SIZE);
+    for (uint32_t i = 0; i < STEPS; i++, at += step_size)
         record_step(&chance, wants_done(&chance), &step, at);
-    put_head(at, POMURICA_END_SIZE, 3);
-    put_word(at + 4, STEPS);
+    put_word(at, POMURICA_END_HEAD);
+    put_word(at + END_COUNT, STEPS);
+}
+
+/* A file has the bytes of an old trace at least; by its head it has those of a new one. */
+static bool read_trace(const char *name)
+{
+    if (!read_file(name, trace, OLD_TRACE_SIZE))
+        return false;
+    trace_len = get_word(trace) == POMURICA_OLD_START_HEAD ? OLD_TRACE_SIZE : TRACE_SIZE;
+    return read_file(name, trace, trace_len);
 }
 
 static void prepare(void)
@@ -153,20 +159,22 @@ static void run(void)
 {
     uint8_t report[REPORT_SIZE];
 
-    number = check(trace, sizeof trace, report, sizeof report);
+    number = check(trace, trace_len, report, sizeof report);
 }
 
 int main(int argc, char **argv)
 {
-    if (argc == 3 && strcmp(argv[1], "prepare") == 0) {
-        record();
-        return write_file(argv[2], trace, sizeof trace) ? 0 : 2;
+    const bool old = argc == 3 && strcmp(argv[1], "prepare-old") == 0;
+
+    if (old || (argc == 3 && strcmp(argv[1], "prepare") == 0)) {
+        record(old);
+        return write_file(argv[2], trace, old ? OLD_TRACE_SIZE : TRACE_SIZE) ? 0 : 2;
     }
     if (argc != 4) {
-        fprintf(stderr, "usage: check_loop prepare FILE | count WHO FILE | time WHO FILE\n");
+        fprintf(stderr, "usage: check_loop prepare FILE | prepare-old FILE | count WHO FILE | time WHO FILE\n");
         return 2;
     }
-    if (!read_file(argv[3], trace, sizeof trace))
+    if (!read_trace(argv[3]))
         return 2;
     check = check_of(argv[2]);
     if (strcmp(argv[1], "time") == 0)

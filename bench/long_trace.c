@@ -23,7 +23,7 @@ static void record_step(const struct event *event, uint8_t *block, uint8_t *step
 
 size_t record_long_trace(uint32_t steps, bool right)
 {
-    struct chance chance = { 1 };
+    struct chance chance = { .seed = 1 };
     uint8_t block[BLOCK_SIZE], *at = long_trace + POMURICA_START_SIZE;
 
     good_block(&chance, block);

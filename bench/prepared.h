@@ -15,12 +15,13 @@
 /* Steps of a run: as many of each code. */
 #define STEPS 13000
 
-/* The bytes of the trace that has them. */
+/* The bytes of the trace that has them, and of one of the old layout. */
 #define TRACE_SIZE (POMURICA_START_SIZE + STEPS * POMURICA_STEP_SIZE + POMURICA_END_SIZE)
+#define OLD_TRACE_SIZE (POMURICA_OLD_START_SIZE + STEPS * POMURICA_OLD_STEP_SIZE + POMURICA_END_SIZE)
 
 /* The block that is lent and an event on it. */
 struct step_case {
-    uint8_t block[176];
+    uint8_t block[POMURICA_BLOCK_SIZE];
     struct event event;
 };
 

@@ -2,8 +2,8 @@
  * The recorder, written for speed: each Step is stepped where it is written, on
  * a copy of the block of the record before it, which ends where the Step begins.
  * The step is compiled in, so that the compiler may do as it likes.  The copy is
- * sixteen bytes at a time; the C library's memcpy (BY_MEMCPY) is slower for so
- * few, and differs from processor to processor.
+ * sixteen bytes at a time, and HDCR; the C library's memcpy (BY_MEMCPY) is slower
+ * for so few, and differs from processor to processor.
  */
 #include "step.c"
 
@@ -25,7 +25,7 @@ ALWAYS_INLINE void carry(uint8_t *to, const uint8_t *from, size_t part)
 /* Part by part: of a loop over them the compiler makes a call of memcpy. */
 ALWAYS_INLINE void carry_block(uint8_t *to, const uint8_t *from)
 {
-    _Static_assert(POMURICA_BLOCK_SIZE == 11 * LANES, "eleven parts");
+    _Static_assert(4 * POMURICA_PLACE_HDCR == 11 * LANES, "eleven parts, and a word");
     carry(to, from, 0);
     carry(to, from, 1);
     carry(to, from, 2);
@@ -37,6 +37,7 @@ ALWAYS_INLINE void carry_block(uint8_t *to, const uint8_t *from)
     carry(to, from, 8);
     carry(to, from, 9);
     carry(to, from, 10);
+    put(to, POMURICA_PLACE_HDCR, get(from, POMURICA_PLACE_HDCR));
 }
 #endif
 

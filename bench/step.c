@@ -31,7 +31,8 @@ enum {
     NS = 1 << 0, SCR_IRQ = 1 << 1, SCR_FIQ = 1 << 2, EA = 1 << 3, FW = 1 << 4, AW = 1 << 5, SCD = 1 << 7, HCE = 1 << 8,
     FMO = 1 << 3, IMO = 1 << 4, AMO = 1 << 5, VF = 1 << 6, VI = 1 << 7, VA = 1 << 8,
     TSC = 1 << 19, TGE = 1 << 27,
-    V = 1 << 13
+    V = 1 << 13,
+    TDE = 1 << 8
 };
 
 /* N Z C V Q, GE and the masks stay at an entry. */
@@ -404,11 +405,22 @@ ALWAYS_INLINE uint32_t abort_with(const struct state *state, uint32_t a, uint32_
     DONE_WITH(enter_abort(state, 0, offset, pc + added));
 }
 
+/* From Non-secure User and Non-secure EL1 with TDE 1: where a debug abort goes to Hyp. */
+ALWAYS_INLINE uint32_t is_debugged(const struct state *state)
+{
+    return state->ns && !is_in(state->mode, MONITOR | HYP) && (get(state->block, POMURICA_PLACE_HDCR) & TDE);
+}
+
+/* A debug abort that does not go to Hyp so is as one with A 0. */
 EVENT(prefetch_abort)
 {
     const struct state state = STATE;
 
-    return abort_with(&state, a, b, 0x0C, 4, answer);
+    if (a != POMURICA_ABORT_DEBUG)
+        return abort_with(&state, a, b, 0x0C, 4, answer);
+    if (!b && is_debugged(&state))
+        DONE_WITH(enter_hyp(&state, 0, 0x14, PC));
+    return abort_with(&state, 0, b, 0x0C, 4, answer);
 }
 
 EVENT(data_abort)

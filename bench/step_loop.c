@@ -52,7 +52,7 @@ static void prepare_case(struct chance *chance, uint32_t code, struct step_case 
 
 static void prepare(uint32_t code)
 {
-    struct chance chance = { 1 };
+    struct chance chance = { .seed = 1 };
 
     for (uint32_t i = 0; i < STEPS; i++)
         prepare_case(&chance, code != 0 ? code : 1 + i % (CODES - 1), &prepared[i]);

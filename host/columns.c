@@ -24,7 +24,7 @@ enum lane lane_of(const uint8_t *block)
 
 static enum outcome recorded_outcome(const struct shown *shown, uint32_t index)
 {
-    const uint8_t *const step = shown->trace + step_place(index);
+    const uint8_t *const step = step_at(shown->trace, index);
 
     return outcome_of(pomurica_get_word(step, POMURICA_STEP_CODE), pomurica_get_word(step, POMURICA_STEP_NUMBER),
                       pomurica_get_word(step, POMURICA_STEP_VALUE));

@@ -7,6 +7,7 @@
 #ifndef COLUMNS_H
 #define COLUMNS_H
 
+#include "layout.h"
 #include "record.h"
 #include "shown.h"
 
@@ -73,7 +74,7 @@ static inline uint32_t column_of(const struct row *row, uint32_t index)
 /* The block that a Step found; for the number of all Steps, the one that the last left. */
 static inline const uint8_t *block_at(const struct shown *shown, uint32_t index)
 {
-    return block_before(shown->trace + step_place(index));
+    return step_at(shown->trace, index) - layout_of(shown->trace)->block_size;
 }
 
 enum lane lane_of(const uint8_t *block);

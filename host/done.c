@@ -1,26 +1,36 @@
 /* How many Steps of a trace were done: see done.h. */
 #include "done.h"
 
+#include "layout.h"
 #include "pomurica.h"
 #include "record.h"
 
-/* The bytes of an answer number, and where they begin in a Step. */
-enum { NUMBER_SIZE = 4, NUMBER_PLACE = 4 * POMURICA_STEP_NUMBER };
+/* The bytes of a word, and where an answer number begins in a Step. */
+enum { WORD_SIZE = 4, NUMBER_PLACE = WORD_SIZE * POMURICA_STEP_NUMBER };
 
 void begin_done(struct done *done)
 {
-    *done = (struct done){ .before = POMURICA_START_SIZE + NUMBER_PLACE };
+    *done = (struct done){ .layout = NULL };
 }
 
-/* A byte of an answer number; from the last one it is a Step's length to the next. */
-static void count_byte(struct done *done, uint8_t byte)
+/* A word is there whole; from its last byte it is so far to the next. */
+static void take_word(struct done *done)
 {
-    done->number |= (uint32_t)byte << 8 * done->held;
-    if (++done->held < NUMBER_SIZE)
-        return;
-    done->steps += done->number == POMURICA_DONE;
-    done->number = done->held = 0;
-    done->before = POMURICA_STEP_SIZE - NUMBER_SIZE;
+    if (done->layout == NULL) {
+        done->layout = layout_of_head(done->word);
+        done->before = done->layout->start_size + NUMBER_PLACE - WORD_SIZE;
+    } else {
+        done->steps += done->word == POMURICA_DONE;
+        done->before = done->layout->step_size - WORD_SIZE;
+    }
+    done->word = done->held = 0;
+}
+
+static void take_byte(struct done *done, uint8_t byte)
+{
+    done->word |= (uint32_t)byte << 8 * done->held;
+    if (++done->held == WORD_SIZE)
+        take_word(done);
 }
 
 /* The End has too few bytes to look like a Step with an answer number. */
@@ -30,7 +40,7 @@ void count_done_in(struct done *done, const uint8_t *bytes, size_t length)
         bytes += done->before;
         length -= done->before + 1;
         done->before = 0;
-        count_byte(done, *bytes++);
+        take_byte(done, *bytes++);
     }
     done->before -= length;
 }
@@ -41,6 +51,6 @@ uint32_t count_done(const uint8_t *trace, uint32_t steps)
 
     begin_done(&done);
     if (steps > 0)
-        count_done_in(&done, trace, step_place(steps));
+        count_done_in(&done, trace, step_place(trace, steps));
     return done.steps;
 }

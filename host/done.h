@@ -9,12 +9,15 @@
 #include <stddef.h>
 #include <stdint.h>
 
-/* The count of a trace that comes in pieces. */
+struct layout;
+
+/* The count of a trace that comes in pieces, by some of its words: the Start's head, and then the answer numbers. */
 struct done {
-    uint32_t steps;  /* Steps whose answer number has come, and is DONE */
-    size_t before;   /* bytes that come before the next one of an answer number */
-    uint32_t held;   /* how many bytes of that number have come */
-    uint32_t number; /* what they say of it */
+    const struct layout *layout; /* by the head; NULL before it */
+    uint32_t steps;              /* Steps whose answer number has come, and is DONE */
+    size_t before;               /* bytes that come before the next one of such a word */
+    uint32_t held;               /* how many bytes of the word have come */
+    uint32_t word;               /* what they say of it */
 };
 
 void begin_done(struct done *done);

@@ -21,7 +21,7 @@
 
 /*
  * The most that is read of a file whose trace has to be there whole.  A trace
- * has at most 65,535 Steps, so its End lies within the first 13,107,192 bytes
+ * has at most 65,535 Steps, so its End lies within the first 13,369,336 bytes
  * and no record that the checker judges reaches further.  One byte more shows
  * that something follows the End; what it is, and what comes behind it, changes
  * neither number nor place nor Steps.

@@ -2,6 +2,7 @@
 #include "listing.h"
 
 #include "count.h"
+#include "layout.h"
 #include "phrases.h"
 #include "pomurica.h"
 #include "record.h"
@@ -17,9 +18,10 @@ static void put_word(FILE *out, uint32_t word)
 /* The words that a Step changed, as its record has them. */
 static void list_changes(FILE *out, const uint8_t *step)
 {
+    const uint32_t places = layout_of(step)->places;
     uint32_t changes = 0;
 
-    for (uint32_t place = 0; place < POMURICA_PLACES; place++) {
+    for (uint32_t place = 0; place < places; place++) {
         const uint32_t before = pomurica_get_word(block_before(step), place);
         const uint32_t after = pomurica_get_word(block_after(step), place);
 
@@ -65,13 +67,14 @@ static void list_due(FILE *out, uint32_t part, const char *before, uint32_t due,
 /* The words of a wrong Step: its answer, and each place that was to change or did. */
 static void list_dues(FILE *out, const uint8_t *step, const struct due *due)
 {
+    const uint32_t places = layout_of(step)->places;
     char text[sizeof "0x00000000"];
 
     fputs("<table><tr><th>word</th><th>before</th><th>due</th><th>found</th><td></td></tr>\n", out);
     for (uint32_t i = 0; i < POMURICA_ANSWER_SIZE / 4; i++)
         list_due(out, POMURICA_PART_NUMBER + i, "", pomurica_get_word(due->answer, i),
                  pomurica_get_word(step, POMURICA_STEP_NUMBER + i));
-    for (uint32_t place = 0; place < POMURICA_PLACES; place++) {
+    for (uint32_t place = 0; place < places; place++) {
         const uint32_t before = pomurica_get_word(block_before(step), place);
         const uint32_t given = pomurica_get_word(due->block, place);
         const uint32_t found = pomurica_get_word(block_after(step), place);
@@ -93,22 +96,26 @@ static void list_event(FILE *out, const uint8_t *step)
 }
 
 /* What a Step's line begins with: its number and place, its event, and the state that it met. */
-static void begin_line(FILE *out, const uint8_t *step, uint32_t index)
+static void begin_line(FILE *out, const struct shown *shown, uint32_t index)
 {
-    fprintf(out, "<summary><span>%" PRIu32 "</span><span>%" PRIu32 "</span><span>", index + 1, step_place(index));
+    const uint8_t *const step = step_at(shown->trace, index);
+
+    fprintf(out, "<summary><span>%" PRIu32 "</span><span>%" PRIu32 "</span><span>", index + 1,
+            step_place(shown->trace, index));
     tell_event(out, step);
     fputs("</span><span>", out);
     tell_state(out, block_before(step));
     fputs("</span>", out);
 }
 
-static void list_wrong_step(FILE *out, const uint8_t *step, uint32_t index)
+static void list_wrong_step(FILE *out, const struct shown *shown, uint32_t index)
 {
+    const uint8_t *const step = step_at(shown->trace, index);
     struct due due;
 
     find_due(step, &due);
     fprintf(out, "<details id=\"s%" PRIu32 "\" class=\"wrong\" open>", index + 1);
-    begin_line(out, step, index);
+    begin_line(out, shown, index);
     fputs("<span><b>WRONG</b>; the rules give: ", out);
     tell_outcome(out, step, pomurica_get_word(due.answer, POMURICA_ANSWER_NUMBER),
                  pomurica_get_word(due.answer, POMURICA_ANSWER_VALUE));
@@ -130,14 +137,15 @@ static const char *outcome_style(enum outcome outcome)
 }
 
 /* A Step as its record has it: a right one has what the rules give. */
-static void list_step(FILE *out, const uint8_t *step, uint32_t index, bool judged)
+static void list_step(FILE *out, const struct shown *shown, uint32_t index)
 {
+    const uint8_t *const step = step_at(shown->trace, index);
     const uint32_t code = pomurica_get_word(step, POMURICA_STEP_CODE);
     const uint32_t number = pomurica_get_word(step, POMURICA_STEP_NUMBER);
     const uint32_t value = pomurica_get_word(step, POMURICA_STEP_VALUE);
 
-    fprintf(out, "<details id=\"s%" PRIu32 "\"%s>", index + 1, judged ? "" : " class=\"pale\"");
-    begin_line(out, step, index);
+    fprintf(out, "<details id=\"s%" PRIu32 "\"%s>", index + 1, index < shown->judged ? "" : " class=\"pale\"");
+    begin_line(out, shown, index);
     fprintf(out, "<span%s>", outcome_style(outcome_of(code, number, value)));
     tell_outcome(out, step, number, value);
     fputs("</span></summary>", out);
@@ -166,15 +174,13 @@ static void list_all(FILE *out, const struct shown *shown)
     fputs("<div class=\"head\"><span>Step</span><span>at byte</span><span>event</span><span>it was in</span>"
           "<span>outcome</span></div>\n", out);
     for (uint32_t index = shown->first; index < shown->last; index++) {
-        const uint8_t *const step = shown->trace + step_place(index);
-
         if (index > 0 && is_wrong(shown, index - 1))
             fputs("<p class=\"left-out\">Behind the wrong Step nothing was judged. "
                   "What follows is as it was recorded.</p>\n", out);
         if (is_wrong(shown, index))
-            list_wrong_step(out, step, index);
+            list_wrong_step(out, shown, index);
         else
-            list_step(out, step, index, index < shown->judged);
+            list_step(out, shown, index);
     }
 }
 

@@ -14,14 +14,15 @@
 
 #include <inttypes.h>
 
-/* Steps stand behind a wrong one as far as records with a Step's head do, whole, and Start counts them. */
+/* Steps stand behind a wrong one as far as records with its own head do, whole, and Start counts them. */
 static uint32_t count_recorded(const uint8_t *trace, size_t length, uint32_t judged)
 {
     const uint32_t counted = pomurica_get_word(trace, POMURICA_RECORD_COUNT);
+    const uint32_t head = pomurica_get_word(step_at(trace, judged - 1), POMURICA_RECORD_HEAD);
     uint32_t index = judged;
 
-    while (index < counted && step_place(index + 1) <= length &&
-           pomurica_get_word(trace + step_place(index), POMURICA_RECORD_HEAD) == POMURICA_STEP_HEAD)
+    while (index < counted && step_place(trace, index + 1) <= length &&
+           pomurica_get_word(step_at(trace, index), POMURICA_RECORD_HEAD) == head)
         index++;
     return index;
 }

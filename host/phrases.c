@@ -1,6 +1,7 @@
 /* Words for what stands in a trace: see phrases.h. */
 #include "phrases.h"
 
+#include "layout.h"
 #include "pomurica.h"
 #include "record.h"
 
@@ -14,7 +15,7 @@ static const char *const REGISTERS[POMURICA_PLACES] = {
     "LR_irq", "SP_irq", "LR_svc", "SP_svc", "LR_abt", "SP_abt", "LR_und", "SP_und",
     "LR_mon", "SP_mon", "ELR_hyp", "SP_hyp",
     "SPSR_fiq", "SPSR_irq", "SPSR_svc", "SPSR_abt", "SPSR_und", "SPSR_mon", "SPSR_hyp",
-    "CPSR", "PC", "SCR", "HCR", "SCTLR_s", "SCTLR_ns", "HSCTLR", "VBAR_s", "VBAR_ns", "HVBAR", "MVBAR",
+    "CPSR", "PC", "SCR", "HCR", "SCTLR_s", "SCTLR_ns", "HSCTLR", "VBAR_s", "VBAR_ns", "HVBAR", "MVBAR", "HDCR",
 };
 
 /*
@@ -45,12 +46,11 @@ static const char *const CELLS_R_1[8][4] = {
     { NONE, NONE, NONE, NONE },
 };
 
-/* The most that A of an event may be, where it has one (document 01, "Events"). */
+/* The most that A of an event may be, where it has one (document 01, "Events") and the layout does not decide it. */
 enum {
-    MOST_ABORT = POMURICA_ABORT_EXTERNAL | POMURICA_ABORT_STAGE_2,
+    MOST_OF_DATA_ABORT = POMURICA_ABORT_EXTERNAL | POMURICA_ABORT_STAGE_2,
     MOST_LINES = 31,
-    MOST_CELL = 63, /* 32 * R + SYSm */
-    MOST_PLACE = POMURICA_PLACES - 1
+    MOST_CELL = 63 /* 32 * R + SYSm */
 };
 
 static const char *const LINES[] = { "SError", "FIQ", "IRQ", "virtual FIQ", "virtual IRQ" };
@@ -199,16 +199,16 @@ static void tell_operands(FILE *out, uint32_t code, uint32_t a, uint32_t b)
     }
 }
 
-/* The most that A may be; 0 where it must be 0.  A of a return goes by is_taken_off. */
-static uint32_t most_a(uint32_t code)
+/* The most that A may be in a layout; 0 where it must be 0.  A of a return goes by is_taken_off. */
+static uint32_t most_a(const struct layout *layout, uint32_t code)
 {
     switch (code) {
-    case POMURICA_EVENT_PREFETCH_ABORT:
-    case POMURICA_EVENT_DATA_ABORT: return MOST_ABORT;
+    case POMURICA_EVENT_PREFETCH_ABORT: return layout->most_of_prefetch;
+    case POMURICA_EVENT_DATA_ABORT: return MOST_OF_DATA_ABORT;
     case POMURICA_EVENT_INTERRUPT_CHECK: return MOST_LINES;
     case POMURICA_EVENT_BANKED_READ:
     case POMURICA_EVENT_BANKED_WRITE: return MOST_CELL;
-    case POMURICA_EVENT_NOTE: return MOST_PLACE;
+    case POMURICA_EVENT_NOTE: return layout->places - 1;
     default: return 0;
     }
 }
@@ -225,9 +225,13 @@ static bool is_taken_off(uint32_t mode, uint32_t a)
     return a == 0 || (mode != POMURICA_MODE_HYP && (a == 2 || a == 4 || a == 8));
 }
 
-static bool is_right_a(uint32_t code, uint32_t mode, uint32_t a)
+static bool is_right_a(const uint8_t *step)
 {
-    return code == POMURICA_EVENT_RETURN ? is_taken_off(mode, a) : a <= most_a(code);
+    const uint32_t code = pomurica_get_word(step, POMURICA_STEP_CODE), a = pomurica_get_word(step, POMURICA_STEP_A);
+
+    if (code == POMURICA_EVENT_RETURN)
+        return is_taken_off(mode_of(block_before(step)), a);
+    return a <= most_a(layout_of(step), code);
 }
 
 /* What is wrong with an operand, if anything. */
@@ -243,31 +247,43 @@ static void tell_excess(FILE *out, char operand, uint32_t word, uint32_t most)
 }
 
 /* What is wrong with A, if anything. */
-static void tell_wrong_a(FILE *out, uint32_t code, uint32_t mode, uint32_t a)
+static void tell_wrong_a(FILE *out, const uint8_t *step)
 {
+    const uint32_t code = pomurica_get_word(step, POMURICA_STEP_CODE), a = pomurica_get_word(step, POMURICA_STEP_A);
+    const uint32_t mode = mode_of(block_before(step));
+
     if (code != POMURICA_EVENT_RETURN)
-        tell_excess(out, 'A', a, most_a(code));
+        tell_excess(out, 'A', a, most_a(layout_of(step), code));
     else if (!is_taken_off(mode, a))
         fprintf(out, ", A %" PRIu32 ", which must be 0%s", a, mode == POMURICA_MODE_HYP ? " from Hyp" : ", 2, 4 or 8");
 }
 
+/* What an abort is by A, before its name; that it is of stage 2 stands behind it.  Nothing of any other event. */
+static const char *kind_of_abort(uint32_t code, uint32_t a)
+{
+    if (code != POMURICA_EVENT_PREFETCH_ABORT && code != POMURICA_EVENT_DATA_ABORT)
+        return "";
+    if (a & POMURICA_ABORT_DEBUG)
+        return "debug ";
+    return a & POMURICA_ABORT_EXTERNAL ? "external " : "";
+}
+
 void tell_event(FILE *out, const uint8_t *step)
 {
-    const uint32_t code = pomurica_get_word(step, POMURICA_STEP_CODE), mode = mode_of(block_before(step));
+    const uint32_t code = pomurica_get_word(step, POMURICA_STEP_CODE);
     const uint32_t a = pomurica_get_word(step, POMURICA_STEP_A), b = pomurica_get_word(step, POMURICA_STEP_B);
-    const bool aborts = code == POMURICA_EVENT_PREFETCH_ABORT || code == POMURICA_EVENT_DATA_ABORT;
-    const bool in_range = is_right_a(code, mode, a);
+    const bool in_range = is_right_a(step);
 
     if (event_name(code) == NULL) {
         fprintf(out, "event of code %" PRIu32 ", which is none", code);
         return;
     }
-    fprintf(out, "%s%s", aborts && in_range && a & POMURICA_ABORT_EXTERNAL ? "external " : "", event_name(code));
+    fprintf(out, "%s%s", in_range ? kind_of_abort(code, a) : "", event_name(code));
     if (in_range)
         tell_operands(out, code, a, b);
     else if (most_b(code) > 0) /* A says of no place that it takes the word */
         fprintf(out, " of 0x%08" PRIX32, b);
-    tell_wrong_a(out, code, mode, a);
+    tell_wrong_a(out, step);
     tell_excess(out, 'B', b, most_b(code));
 }
 
@@ -417,9 +433,18 @@ static bool is_saved_word_bad(const uint8_t *step)
     return pomurica_get_word(block, place) & POMURICA_CPSR_BITS_24_21;
 }
 
+/* Whether the event of a Step is one that the new layout knows, and the Step's own does not. */
+static bool is_of_new_in_old(const uint8_t *step)
+{
+    return layout_of(step)->old &&
+           is_of_new_alone(pomurica_get_word(step, POMURICA_STEP_CODE), pomurica_get_word(step, POMURICA_STEP_A));
+}
+
 /* Why an event is refused, where more is to be said than the number; else NULL. */
 static const char *why_refused(const uint8_t *step, uint32_t number)
 {
+    if (number == POMURICA_BAD_EVENT && is_of_new_in_old(step))
+        return "not known in the old layout";
     if (number == POMURICA_DISABLED)
         return why_disabled(step);
     if (number == POMURICA_BAD_STATE && is_saved_word_bad(step))

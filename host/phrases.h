@@ -33,7 +33,9 @@ const char *warning_of(const uint8_t *report, uint32_t done);
 /*
  * The event of a Step: "interrupt check, lines IRQ"; with what is wrong with it:
  * "interrupt check, A 33, above 31".  What A of a return may be goes by the mode
- * before the Step: "exception return, A 4, which must be 0 from Hyp".
+ * before the Step: "exception return, A 4, which must be 0 from Hyp"; what A of a
+ * Prefetch Abort and of a note may be, by the layout: "debug Prefetch Abort" is
+ * in the old one "Prefetch Abort, A 4, above 3".
  */
 void tell_event(FILE *out, const uint8_t *step);
 
@@ -47,7 +49,8 @@ void tell_state(FILE *out, const uint8_t *block);
  * What an answer says came of the event of a Step: "enters IRQ mode at 0x18".
  * Of a call that is disabled with the reason, by the block before the Step:
  * "refused with 16 DISABLED (HVC is disabled: SCR.HCE is 0)"; and so of a return
- * that its saved word refuses, and of an access that is denied.  Of a return that is done with what the rules make
+ * that its saved word refuses, of an access that is denied, and of an event that
+ * only the new layout knows.  Of a return that is done with what the rules make
  * of it, by that block too: "returns to Non-secure User at 0x00008004", "illegal
  * return (Hyp is above Exception level 1): stays in Non-secure Supervisor, IL
  * becomes 1, goes on at 0x00008004".

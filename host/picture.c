@@ -269,7 +269,7 @@ static void name_events(FILE *out, const struct picture *picture)
     const struct row *const row = picture->row;
 
     for (uint32_t index = row->first; index < row->last; index++) {
-        const char *const name = column_name(row->shown->trace + step_place(index));
+        const char *const name = column_name(step_at(row->shown->trace, index));
 
         if (name == NULL)
             continue;
@@ -340,7 +340,7 @@ static void draw_end(FILE *out, const struct picture *picture)
 static void draw_links(FILE *out, const struct picture *picture)
 {
     for (uint32_t index = picture->row->first; index < picture->row->last; index++) {
-        const uint8_t *const step = picture->row->shown->trace + step_place(index);
+        const uint8_t *const step = step_at(picture->row->shown->trace, index);
 
         fprintf(out, "<a href=\"#s%" PRIu32 "\" tabindex=\"-1\">", index + 1);
         fprintf(out, "<rect class=\"link\" x=\"%u\" y=\"%u\" width=\"%u\" height=\"%u\">", step_x(picture, index),

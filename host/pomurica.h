@@ -3,10 +3,19 @@
  * levels use AArch32, one step at a time, and a checker of traces of steps.
  * C11 and C++11.
  *
- * A state block of 176 bytes holds the core's banked and system registers, an
+ * A state block of 180 bytes holds the core's banked and system registers, an
  * event is something that happens to it, and a step says what the core does.
  * A trace is what a unit records of its steps; the checker accepts it exactly
  * when the rules can have made it.
+ *
+ * A trace has one of two layouts, which its Start tells by its kind.  The new
+ * one has blocks of 180 bytes.  The old one, of units without self-hosted debug,
+ * has blocks of 176: they lack the last word, HDCR, which counts as 0, and a
+ * debug abort and a note on HDCR are no events there.  What has a plain name
+ * here is of the new layout; POMURICA_OLD_ names the same of the old one.
+ * pomurica_check, a session, pomurica_explain and pomurica_count take traces of
+ * both.  pomurica_step and pomurica_batch take blocks of 180 bytes alone, and
+ * pomurica_record takes such a block and writes the new layout.
  *
  * The ten functions are proved: for every input they return, give the one
  * answer that the rules give, and write nothing but what is said here.  They
@@ -16,8 +25,8 @@
  *
  * The archive libconsole.a is x86-64 code for Linux: ELF, the System V calling
  * convention, position independent, for any x86-64 processor.  It defines the
- * ten functions and no other name, calls nothing but the C library's memcpy
- * and memset, and stands behind the objects that use it:
+ * ten functions and no other name, calls nothing but the C library's memcpy,
+ * memmove and memset, and stands behind the objects that use it:
  *
  *     cc -I host program.c libconsole.a
  *
@@ -41,57 +50,69 @@ extern "C" {
 
 /* Sizes in bytes. */
 enum {
-    POMURICA_BLOCK_SIZE = 176,
+    POMURICA_BLOCK_SIZE = 180,
+    POMURICA_OLD_BLOCK_SIZE = 176,
     POMURICA_ANSWER_SIZE = 8,
     POMURICA_REPORT_SIZE = 12,
     POMURICA_EXPLANATION_SIZE = 24,
     POMURICA_COUNTS_SIZE = 512,
     POMURICA_LINES_SIZE = 2048, /* room that is enough for the lines of any counts */
-    POMURICA_START_SIZE = 184,
-    POMURICA_STEP_SIZE = 200,
-    POMURICA_END_SIZE = 8,
-    POMURICA_RECORD_SIZE = POMURICA_STEP_SIZE /* room for any record */
+    POMURICA_START_SIZE = 188,
+    POMURICA_OLD_START_SIZE = 184,
+    POMURICA_STEP_SIZE = 204,
+    POMURICA_OLD_STEP_SIZE = 200,
+    POMURICA_END_SIZE = 8, /* in both layouts */
+    POMURICA_RECORD_SIZE = POMURICA_STEP_SIZE /* room for any record of either layout */
 };
 
 /*
  * A trace is one Start, n Steps and one End, without a gap.  Each record is
  * little-endian words, and its first is its head: its own length in bytes in
- * bits 15-0, its kind in bits 31-16.
+ * bits 15-0, its kind in bits 31-16.  Start and Steps are of one layout; a trace
+ * that mixes the two is POMURICA_BAD_RECORD at the record that is not due.
  */
 enum pomurica_kind {
-    POMURICA_KIND_START = 1,
-    POMURICA_KIND_STEP = 2,
+    POMURICA_KIND_START = 4,
+    POMURICA_OLD_KIND_START = 1,
+    POMURICA_KIND_STEP = 5,
+    POMURICA_OLD_KIND_STEP = 2,
     POMURICA_KIND_END = 3
 };
 
 /* The heads: what a record's first word is. */
-#define POMURICA_START_HEAD UINT32_C(0x000100B8)
-#define POMURICA_STEP_HEAD UINT32_C(0x000200C8)
+#define POMURICA_START_HEAD UINT32_C(0x000400BC)
+#define POMURICA_OLD_START_HEAD UINT32_C(0x000100B8)
+#define POMURICA_STEP_HEAD UINT32_C(0x000500CC)
+#define POMURICA_OLD_STEP_HEAD UINT32_C(0x000200C8)
 #define POMURICA_END_HEAD UINT32_C(0x00030008)
 
-/* Where the words of a record lie, counted in words from 0. */
+/* Where the words of a record lie, counted in words from 0, in both layouts. */
 enum pomurica_record_word {
     POMURICA_RECORD_HEAD = 0,
     POMURICA_RECORD_COUNT = 1, /* of a Start and of an End: n, at most 65,535 */
-    POMURICA_START_BLOCK = 2,  /* the block before the first Step, 44 words; it need not be good */
+    POMURICA_START_BLOCK = 2,  /* the block before the first Step, 45 words, old 44; it need not be good */
     POMURICA_STEP_CODE = 1,    /* the event */
     POMURICA_STEP_A = 2,
     POMURICA_STEP_B = 3,
     POMURICA_STEP_NUMBER = 4,  /* its answer */
     POMURICA_STEP_VALUE = 5,
-    POMURICA_STEP_BLOCK = 6    /* the block after it, 44 words */
+    POMURICA_STEP_BLOCK = 6    /* the block after it, 45 words, old 44 */
 };
 
 /* The most Steps that a trace may have. */
 #define POMURICA_MOST_STEPS 65535
 
-/* The bytes of the longest trace there is: 13,107,192. */
+/* The bytes of the longest trace of a layout: 13,369,336, in the old one 13,107,192. */
 #define POMURICA_LONGEST_TRACE \
     (POMURICA_START_SIZE + POMURICA_MOST_STEPS * POMURICA_STEP_SIZE + POMURICA_END_SIZE)
+#define POMURICA_OLD_LONGEST_TRACE \
+    (POMURICA_OLD_START_SIZE + POMURICA_MOST_STEPS * POMURICA_OLD_STEP_SIZE + POMURICA_END_SIZE)
 
-/* The bytes of a trace of n Steps, n being at most POMURICA_MOST_STEPS: 192 + 200 * n. */
+/* The bytes of a trace of n Steps, n at most POMURICA_MOST_STEPS: 196 + 204 * n, in the old layout 192 + 200 * n. */
 #define POMURICA_TRACE_SIZE(n) \
     (POMURICA_START_SIZE + (size_t)(n) * POMURICA_STEP_SIZE + POMURICA_END_SIZE)
+#define POMURICA_OLD_TRACE_SIZE(n) \
+    (POMURICA_OLD_START_SIZE + (size_t)(n) * POMURICA_OLD_STEP_SIZE + POMURICA_END_SIZE)
 
 /*
  * Answer numbers: 0 to 7, 16 and 17 of a step; 0, 1 and 8 to 12 of the checker,
@@ -130,7 +151,7 @@ enum pomurica_code {
     POMURICA_EVENT_SVC = 2,
     POMURICA_EVENT_SMC = 3, /* refused with POMURICA_DISABLED while SCR.SCD is 1, unless HCR.TSC traps it */
     POMURICA_EVENT_HVC = 4, /* refused with POMURICA_DISABLED while SCR.HCE is 0 */
-    POMURICA_EVENT_PREFETCH_ABORT = 5,  /* A: enum pomurica_abort, added up */
+    POMURICA_EVENT_PREFETCH_ABORT = 5,  /* A: enum pomurica_abort, added up, or POMURICA_ABORT_DEBUG alone */
     POMURICA_EVENT_DATA_ABORT = 6,      /* A: enum pomurica_abort, added up */
     POMURICA_EVENT_HYP_TRAP = 7,
     POMURICA_EVENT_MONITOR_TRAP = 8,
@@ -162,7 +183,8 @@ enum pomurica_code {
 /* A of an abort. */
 enum pomurica_abort {
     POMURICA_ABORT_EXTERNAL = 1,
-    POMURICA_ABORT_STAGE_2 = 2
+    POMURICA_ABORT_STAGE_2 = 2,
+    POMURICA_ABORT_DEBUG = 4 /* of a Prefetch Abort alone, and with neither of the others: a breakpoint instruction */
 };
 
 /* A of an interrupt check: the lines that are set. */
@@ -233,7 +255,9 @@ enum pomurica_place {
     POMURICA_PLACE_VBAR_NS = 41,
     POMURICA_PLACE_HVBAR = 42,
     POMURICA_PLACE_MVBAR = 43,
-    POMURICA_PLACES = 44
+    POMURICA_PLACE_HDCR = 44, /* not in a block of the old layout */
+    POMURICA_PLACES = 45,
+    POMURICA_OLD_PLACES = 44
 };
 
 /* Bits of CPSR and of an SPSR.  Bits 24-21 are 0 in a good block's CPSR. */
@@ -254,7 +278,7 @@ enum pomurica_place {
 #define POMURICA_CPSR_T (UINT32_C(1) << 5)
 #define POMURICA_CPSR_MODE UINT32_C(31)
 
-/* The bits of SCR, HCR, SCTLR (of both states) and HSCTLR that steer the rules; no other bit of them does. */
+/* The bits of SCR, HCR, SCTLR (of both states), HSCTLR and HDCR that steer the rules; no other bit of them does. */
 #define POMURICA_SCR_NS (UINT32_C(1) << 0)
 #define POMURICA_SCR_IRQ (UINT32_C(1) << 1)
 #define POMURICA_SCR_FIQ (UINT32_C(1) << 2)
@@ -276,6 +300,8 @@ enum pomurica_place {
 #define POMURICA_SCTLR_V (UINT32_C(1) << 13)
 #define POMURICA_SCTLR_EE (UINT32_C(1) << 25) /* of HSCTLR too */
 #define POMURICA_SCTLR_TE (UINT32_C(1) << 30) /* of HSCTLR too */
+
+#define POMURICA_HDCR_TDE (UINT32_C(1) << 8) /* a debug abort from Non-secure User or EL1 enters Hyp */
 
 /* Which exception an entry was: bits 31-16 of its value. */
 enum pomurica_which {
@@ -306,12 +332,14 @@ enum pomurica_told_word {
 /*
  * One step: the event (code, a, b) on the block.
  *
- * block   176 bytes.  A done step leaves the state after the event, a refused
+ * block   180 bytes.  A done step leaves the state after the event, a refused
  *         one leaves every byte.
  * answer  8 bytes: the number, then the value, each a little-endian word.
  *
- * Returns the number, 0 to 7 or 16; the lowest that applies.  POMURICA_BAD_SIZE,
- * if block_len is not 176 or answer_len not 8, writes neither buffer.
+ * Returns the number, 0 to 7, 16 or 17; the lowest that applies.
+ * POMURICA_BAD_SIZE, if block_len is not 180 or answer_len not 8, writes neither
+ * buffer: a block of 176 bytes, out of a trace of the old layout, needs a word of
+ * 0 behind it.
  * POMURICA_DISABLED: the core finds such a call Undefined, so that a recorder
  * has to send POMURICA_EVENT_UNDEFINED in its place.
  *
@@ -340,27 +368,28 @@ struct pomurica_answer {
  * answers  as many: each becomes what pomurica_step answers its event, done in
  *          this order.  An event that is refused has its number and the value 0,
  *          changes nothing, and the rest go on.
- * block    176 bytes: the state after all events.
+ * block    180 bytes: the state after all events.
  *
  * The lengths of events and answers count elements, not bytes, and a pointer is
  * aligned as its struct is.  Returns POMURICA_DONE, also for no events, and
  * whatever each of them answers.  POMURICA_BAD_SIZE, if the lengths differ or
- * block_len is not 176: then no element and no byte has changed.
+ * block_len is not 180: then no element and no byte has changed.
  */
 uint32_t pomurica_batch(const struct pomurica_event *events, size_t events_len,
                         struct pomurica_answer *answers, size_t answers_len,
                         uint8_t *block, size_t block_len);
 
 /*
- * The checker: whether the bytes are the trace of some start block and some
- * list of at most 65,535 events, and nothing more.
+ * The checker: whether the bytes are the trace, in the old layout or the new, of
+ * some start block of that layout and some list of at most 65,535 events, made by
+ * the rules that hold for that layout, and nothing more.
  *
  * trace   any bytes of any length; only read.
  * report  12 bytes: the number, the place and the Steps, each a little-endian
  *         word.  Accepted: the place is the length of the trace, and Steps how
  *         many it has.  Refused: the place is the first byte of the record at
  *         fault (POMURICA_TRAILING: the first byte too many), at most
- *         13,107,192, and Steps is how many Steps before it were found right.
+ *         13,369,336, and Steps is how many Steps before it were found right.
  *
  * Returns the number: POMURICA_DONE if and only if the trace is accepted, else
  * 8 to 12.  POMURICA_BAD_SIZE, if report_len is not 12, writes nothing.
@@ -385,11 +414,19 @@ uint32_t pomurica_check(const uint8_t *trace, size_t trace_len,
  * be copied, and needs nothing when it is done with.  Its words are the
  * functions' own.  One that nobody opened gets answers too, which say nothing of
  * a trace.
+ *
+ * The layout of the trace is in the stage.  While the Start is due it goes by
+ * the kind that has come: 4 is the new layout's, and any other counts as the old
+ * one's.  A trace of the old layout uses the first 176 bytes of the block and the
+ * first 200 of the unfinished record; those behind them are 0 in a session that
+ * was opened, and in any other stay as they are until a fault is known, which
+ * clears every byte of both.
  */
 enum pomurica_stage {
-    POMURICA_STAGE_START = 0, /* the Start is due */
-    POMURICA_STAGE_NEXT = 1,  /* a Step is due, or behind the last one the End */
-    POMURICA_STAGE_OVER = 2   /* the End has come */
+    POMURICA_STAGE_START = 0,    /* the Start is due */
+    POMURICA_STAGE_OLD_NEXT = 1, /* a Step of the old layout is due, or behind the last one the End */
+    POMURICA_STAGE_NEXT = 2,     /* the same of the new layout */
+    POMURICA_STAGE_OVER = 3      /* the End has come, as any higher number says too */
 };
 
 struct pomurica_session {
@@ -432,9 +469,10 @@ uint32_t pomurica_close(struct pomurica_session *session,
                         uint8_t *report, size_t report_len);
 
 /*
- * The recorder: the trace of the events, one after another from the block.
+ * The recorder: the trace, in the new layout, of the events, one after another
+ * from the block.
  *
- * block   176 bytes, which need not be good: the one that the Start shows; only
+ * block   180 bytes, which need not be good: the one that the Start shows; only
  *         read.
  * events  events_len of them, each with its answer in a Step of its own; an
  *         event that is refused has its number there, and the rest go on.  Only
@@ -446,7 +484,7 @@ uint32_t pomurica_close(struct pomurica_session *session,
  *
  * Returns POMURICA_DONE where the trace was written: pomurica_check accepts it,
  * with Steps equal to events_len.  Else the first of these that applies, and no
- * byte has changed: POMURICA_BAD_SIZE, if block_len is not 176;
+ * byte has changed: POMURICA_BAD_SIZE, if block_len is not 180;
  * POMURICA_BAD_COUNT, if there are more than 65,535 events; POMURICA_NO_ROOM, if
  * the offset is past the buffer's end or fewer bytes than the trace has lie
  * behind it.
@@ -460,7 +498,7 @@ enum pomurica_part {
     POMURICA_PART_NONE = 0,
     POMURICA_PART_NUMBER = 1,
     POMURICA_PART_VALUE = 2,
-    POMURICA_PART_BLOCK = 3 /* and the place: 3 to 46 */
+    POMURICA_PART_BLOCK = 3 /* and the place: 3 to 47, in a trace of the old layout to 46 */
 };
 
 /*

@@ -6,21 +6,29 @@
 #ifndef RECORD_H
 #define RECORD_H
 
+#include "layout.h"
 #include "pomurica.h"
 
 #include <stdint.h>
 #include <string.h>
 
 /* The first byte of a Step; they are counted from 0 here, and from 1 where a person reads it. */
-static inline uint32_t step_place(uint32_t index)
+static inline uint32_t step_place(const uint8_t *trace, uint32_t index)
 {
-    return POMURICA_START_SIZE + index * POMURICA_STEP_SIZE;
+    const struct layout *const layout = layout_of(trace);
+
+    return layout->start_size + index * layout->step_size;
+}
+
+static inline const uint8_t *step_at(const uint8_t *trace, uint32_t index)
+{
+    return trace + step_place(trace, index);
 }
 
 /* The block before a Step stands right before it, in a Start and in a Step. */
 static inline const uint8_t *block_before(const uint8_t *step)
 {
-    return step - POMURICA_BLOCK_SIZE;
+    return step - layout_of(step)->block_size;
 }
 
 static inline const uint8_t *block_after(const uint8_t *step)
@@ -53,17 +61,22 @@ static inline enum outcome outcome_of(uint32_t code, uint32_t number, uint32_t v
     return code == POMURICA_EVENT_INTERRUPT_CHECK && value == 0 ? OUTCOME_NOTHING_TAKEN : OUTCOME_ENTRY;
 }
 
-/* What the rules give on the event of a Step from the block before it. */
+/* What the rules of its layout give on the event of a Step from the block before it; HDCR of an old block is 0. */
 struct due {
     uint8_t block[POMURICA_BLOCK_SIZE], answer[POMURICA_ANSWER_SIZE];
 };
 
 static inline void find_due(const uint8_t *step, struct due *due)
 {
-    memcpy(due->block, block_before(step), sizeof due->block);
-    pomurica_step(due->block, sizeof due->block, pomurica_get_word(step, POMURICA_STEP_CODE),
-                  pomurica_get_word(step, POMURICA_STEP_A), pomurica_get_word(step, POMURICA_STEP_B),
-                  due->answer, sizeof due->answer);
+    const struct layout *const layout = layout_of(step);
+    const uint32_t a = pomurica_get_word(step, POMURICA_STEP_A), b = pomurica_get_word(step, POMURICA_STEP_B);
+    uint32_t code = pomurica_get_word(step, POMURICA_STEP_CODE);
+
+    if (layout->old && is_of_new_alone(code, a))
+        code = 0; /* which is no event's */
+    memset(due->block, 0, sizeof due->block);
+    memcpy(due->block, block_before(step), layout->block_size);
+    pomurica_step(due->block, sizeof due->block, code, a, b, due->answer, sizeof due->answer);
 }
 
 #endif

@@ -50,8 +50,9 @@ static const char HELP[] =
     "                      most once; words that are not given are 0\n"
     "    EVENT OPERANDS    an event, at most 65535 of them\n"
     "\n"
-    "An interrupt check names the lines that are set, an abort what it is, in any order,\n"
-    "a return what it takes off LR, if anything: from Hyp it takes ELR_hyp as it is.\n"
+    "An interrupt check names the lines that are set, an abort what it is, in any order\n"
+    "(`debug`, a breakpoint instruction, alone), a return what it takes off LR, if\n"
+    "anything: from Hyp it takes ELR_hyp as it is.\n"
     "Behind `event` stand code, A and B as numbers, for events that no other word makes,\n"
     "bad ones among them.\n"
     "\n";
@@ -133,7 +134,7 @@ static void print_steps(const struct script *script, const char *name, const uin
     for (uint32_t i = 0; i < script->count; i++) {
         put_name(stdout, name);
         printf(":%zu: %s: ", script->origins[i].line, script->origins[i].word);
-        tell_step(stdout, trace + step_place(i));
+        tell_step(stdout, step_at(trace, i));
         putchar('\n');
     }
 }

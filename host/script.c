@@ -54,6 +54,12 @@ static bool take_choice(struct reader *reader, const struct words *words, uint32
     return token.length == 0 || find_word(words, token.text, token.length, number) || refuse_word(reader, &token, words);
 }
 
+/* Whether a flag may not stand beside those before it. */
+static bool is_too_many(const struct words *words, uint32_t before, uint32_t number)
+{
+    return before != 0 && ((before | number) & words->alone) != 0;
+}
+
 /* Any of the words, up to the end of the line; their numbers are bits of their own. */
 static bool take_flags(struct reader *reader, const struct words *words, uint32_t *sum)
 {
@@ -67,6 +73,8 @@ static bool take_flags(struct reader *reader, const struct words *words, uint32_
             return refuse_word(reader, &token, words);
         if (*sum & number)
             return refuse(reader, &token, " a second time", "each word at most once");
+        if (is_too_many(words, *sum, number))
+            return refuse(reader, &token, " beside another word", "`%s` alone", words->word(words->alone));
         *sum |= number;
     }
     return false;
@@ -148,7 +156,8 @@ static bool take_block_word(struct reading *reading, const struct token *named, 
 static bool take_operand(struct reader *reader, enum operand operand, struct pomurica_event *event)
 {
     switch (operand) {
-    case ABORT_FLAGS: return take_flags(reader, &ABORTS, &event->a);
+    case PREFETCH_FLAGS: return take_flags(reader, &PREFETCH_ABORTS, &event->a);
+    case DATA_FLAGS: return take_flags(reader, &DATA_ABORTS, &event->a);
     case LINE_FLAGS: return take_flags(reader, &LINES, &event->a);
     case REGISTER: return take_word(reader, &REGISTERS, &event->a);
     case PLACE: return take_word(reader, &PLACES, &event->a);

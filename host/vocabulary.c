@@ -22,8 +22,8 @@ static const struct event {
     [POMURICA_EVENT_SVC] = { "svc", { NO_OPERAND } },
     [POMURICA_EVENT_SMC] = { "smc", { NO_OPERAND } },
     [POMURICA_EVENT_HVC] = { "hvc", { NO_OPERAND } },
-    [POMURICA_EVENT_PREFETCH_ABORT] = { "prefetch-abort", { ABORT_FLAGS } },
-    [POMURICA_EVENT_DATA_ABORT] = { "data-abort", { ABORT_FLAGS } },
+    [POMURICA_EVENT_PREFETCH_ABORT] = { "prefetch-abort", { PREFETCH_FLAGS } },
+    [POMURICA_EVENT_DATA_ABORT] = { "data-abort", { DATA_FLAGS } },
     [POMURICA_EVENT_HYP_TRAP] = { "hyp-trap", { NO_OPERAND } },
     [POMURICA_EVENT_MONITOR_TRAP] = { "monitor-trap", { NO_OPERAND } },
     [POMURICA_EVENT_INTERRUPT_CHECK] = { "interrupt", { LINE_FLAGS } },
@@ -36,6 +36,7 @@ static const struct event {
 static const char *const ABORT_TABLE[] = {
     [POMURICA_ABORT_EXTERNAL] = "external",
     [POMURICA_ABORT_STAGE_2] = "stage-2",
+    [POMURICA_ABORT_DEBUG] = "debug",
 };
 
 static const char *const LINE_TABLE[] = {
@@ -75,12 +76,14 @@ static const char *amount_word(uint32_t number)
     return AMOUNT_TABLE[number];
 }
 
-const struct words EVENTS = { "an event", COUNT_OF(EVENT_TABLE), event_word };
-const struct words PLACES = { "a place of the block", POMURICA_PLACES, register_name };
-const struct words REGISTERS = { "a banked register", CELLS, banked_name };
-const struct words ABORTS = { "a kind of abort", COUNT_OF(ABORT_TABLE), abort_word };
-const struct words LINES = { "an interrupt line", COUNT_OF(LINE_TABLE), line_word };
-const struct words AMOUNTS = { "an amount to take off LR", COUNT_OF(AMOUNT_TABLE), amount_word };
+const struct words EVENTS = { "an event", COUNT_OF(EVENT_TABLE), event_word, 0 };
+const struct words PLACES = { "a place of the block", POMURICA_PLACES, register_name, 0 };
+const struct words REGISTERS = { "a banked register", CELLS, banked_name, 0 };
+const struct words PREFETCH_ABORTS = { "a kind of Prefetch Abort", COUNT_OF(ABORT_TABLE), abort_word,
+                                       POMURICA_ABORT_DEBUG };
+const struct words DATA_ABORTS = { "a kind of Data Abort", POMURICA_ABORT_DEBUG, abort_word, 0 };
+const struct words LINES = { "an interrupt line", COUNT_OF(LINE_TABLE), line_word, 0 };
+const struct words AMOUNTS = { "an amount to take off LR", COUNT_OF(AMOUNT_TABLE), amount_word, 0 };
 
 const enum operand *operands_of(uint32_t code)
 {
@@ -131,8 +134,10 @@ const char *word_alike(const struct words *words, const char *text, size_t lengt
 static void tell_flags(FILE *out, const struct words *words)
 {
     for (uint32_t i = 0; i < words->end; i++)
-        if (words->word(i) != NULL)
+        if (words->word(i) != NULL && i != words->alone)
             fprintf(out, " [%s]", words->word(i));
+    if (words->alone != 0)
+        fprintf(out, " | %s", words->word(words->alone));
 }
 
 /* One of the words, or none of them. */
@@ -150,8 +155,10 @@ static void tell_choice(FILE *out, const struct words *words)
 
 static void tell_operand(FILE *out, enum operand operand)
 {
-    if (operand == ABORT_FLAGS)
-        tell_flags(out, &ABORTS);
+    if (operand == PREFETCH_FLAGS)
+        tell_flags(out, &PREFETCH_ABORTS);
+    else if (operand == DATA_FLAGS)
+        tell_flags(out, &DATA_ABORTS);
     else if (operand == LINE_FLAGS)
         tell_flags(out, &LINES);
     else if (operand == AMOUNT)

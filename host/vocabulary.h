@@ -16,22 +16,24 @@ struct words {
     const char *what; /* what each of them is: "a banked register" */
     uint32_t end;
     const char *(*word)(uint32_t number);
+    uint32_t alone; /* the number of the flag that no other stands beside; 0 for none */
 };
 
-extern const struct words EVENTS;    /* by code; 0, which is no event's, has the word for an event in plain numbers */
-extern const struct words PLACES;    /* by place of the block */
-extern const struct words REGISTERS; /* by A of a banked access */
-extern const struct words ABORTS;    /* enum pomurica_abort */
-extern const struct words LINES;     /* enum pomurica_line */
-extern const struct words AMOUNTS;   /* by A of a return, above 0: what is taken off LR */
+extern const struct words EVENTS;          /* by code; 0, no event's, has the word for an event in plain numbers */
+extern const struct words PLACES;          /* by place of the block */
+extern const struct words REGISTERS;       /* by A of a banked access */
+extern const struct words PREFETCH_ABORTS; /* enum pomurica_abort */
+extern const struct words DATA_ABORTS;     /* the same without debug */
+extern const struct words LINES;           /* enum pomurica_line */
+extern const struct words AMOUNTS;         /* by A of a return, above 0: what is taken off LR */
 
 /* What follows the word of an event. */
 enum operand {
     NO_OPERAND,
-    ABORT_FLAGS, LINE_FLAGS, /* any of the words, each at most once, in any order: A is their sum */
-    REGISTER, PLACE,         /* one word: A */
-    AMOUNT,                  /* one word, or none: A */
-    NEW_WORD,                /* a number: B */
+    PREFETCH_FLAGS, DATA_FLAGS, LINE_FLAGS, /* any of the words, each at most once, in any order: A is their sum */
+    REGISTER, PLACE,                        /* one word: A */
+    AMOUNT,                                 /* one word, or none: A */
+    NEW_WORD,                               /* a number: B */
     CODE_NUMBER, A_NUMBER, B_NUMBER
 };
 

@@ -20,7 +20,7 @@ static struct pomurica_answer answer_to(const struct pomurica_event *event, uint
     return answer;
 }
 
-/* No. 2: "block and answers are those of single steps done in order". */
+/* No. 2: "block and answers are those of single steps done in order"; No. 11: the batch takes "180 bytes only". */
 uint32_t second_batch(const struct pomurica_event *events, size_t events_len,
                       struct pomurica_answer *answers, size_t answers_len,
                       uint8_t *block, size_t block_len)

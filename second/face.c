@@ -3,6 +3,7 @@
  * what is written against the header also builds natively without the archive.
  */
 #include "pomurica.h"
+#include "records.h"
 #include "second.h"
 
 #include <string.h>
@@ -56,15 +57,15 @@ enum {
     CODE = 1, A = 2, B = 3, FIRST_PART = 4
 };
 
-/* The first part of a wrong Step that differs, into words 3 to 5 of the explanation. */
-static void explain_step(const uint8_t *step, uint8_t *explanation)
+/* The first part of a wrong Step that differs, into words 3 to 5 of the explanation; the block before it ends there. */
+static void explain_step(enum layout layout, const uint8_t *step, uint8_t *explanation)
 {
     uint8_t due[POMURICA_ANSWER_SIZE + POMURICA_BLOCK_SIZE];
     uint32_t part = 0;
 
-    memcpy(due + POMURICA_ANSWER_SIZE, step - POMURICA_BLOCK_SIZE, POMURICA_BLOCK_SIZE);
-    second_step(due + POMURICA_ANSWER_SIZE, POMURICA_BLOCK_SIZE, pomurica_get_word(step, CODE),
-                pomurica_get_word(step, A), pomurica_get_word(step, B), due, POMURICA_ANSWER_SIZE);
+    second_take_block(layout, step - BLOCK_LENGTH[layout], due + POMURICA_ANSWER_SIZE);
+    second_step_in(layout, due + POMURICA_ANSWER_SIZE, pomurica_get_word(step, CODE), pomurica_get_word(step, A),
+                   pomurica_get_word(step, B), due);
     while (pomurica_get_word(step, FIRST_PART + part) == pomurica_get_word(due, part))
         part++;
     pomurica_put_word(explanation, 3, POMURICA_PART_NUMBER + part);
@@ -82,7 +83,7 @@ uint32_t pomurica_explain(const uint8_t *trace, size_t trace_len,
     memset(explanation, 0, POMURICA_EXPLANATION_SIZE);
     number = second_check(trace, trace_len, explanation, POMURICA_REPORT_SIZE);
     if (number == POMURICA_WRONG_STEP)
-        explain_step(trace + pomurica_get_word(explanation, 1), explanation);
+        explain_step(second_layout_of(trace), trace + pomurica_get_word(explanation, 1), explanation);
     return number;
 }
 

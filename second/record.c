@@ -2,6 +2,7 @@
  * The recorder of No. 7 of document 02: a step for each event of the list, one
  * after another from the start block, and each record written where the one
  * before it ends.  Nothing is written before it is known that all has room.
+ * No. 11: it "writes new traces only".
  */
 #include "records.h"
 #include "second.h"
@@ -18,18 +19,18 @@ static void write_header(uint8_t *bytes, struct record record)
     put_half(bytes + 2, record.kind);
 }
 
-/* The trace: "Start (184, kind 1): step count n, block". */
+/* The trace: "step count n, block"; No. 11: "Start kind 4 (188 bytes)". */
 static void write_start(uint8_t *start, uint32_t n, const uint8_t *block)
 {
-    write_header(start, START);
+    write_header(start, START[NEW_LAYOUT]);
     put_word(start + START_COUNT, n);
     memcpy(start + START_BLOCK, block, BLOCK_SIZE);
 }
 
-/* The trace: "Step (200, kind 2): code, A, B, answer, value, block after", of a refused event too; moves the block. */
+/* The trace: "code, A, B, answer, value, block after", refused or not; No. 11: "Step kind 5 (204)"; moves the block. */
 static void write_step(uint8_t *step, const struct pomurica_event *event, uint8_t *block)
 {
-    write_header(step, STEP);
+    write_header(step, STEP[NEW_LAYOUT]);
     put_word(step + STEP_CODE, event->code);
     put_word(step + STEP_A, event->a);
     put_word(step + STEP_B, event->b);
@@ -52,18 +53,18 @@ static void write_trace(uint8_t *trace, const uint8_t *start_block, const struct
 
     memcpy(block, start_block, BLOCK_SIZE);
     write_start(record, n, block);
-    record += START.length;
+    record += START[NEW_LAYOUT].length;
     for (uint32_t i = 0; i < n; i++) {
         write_step(record, &events[i], block);
-        record += STEP.length;
+        record += STEP[NEW_LAYOUT].length;
     }
     write_end(record, n);
 }
 
-/* No. 7: "192 + 200n bytes"; of at most 65,535 events they are 13,107,192 at most. */
+/* No. 11: "196 + 204n" bytes; of at most 65,535 events they are 13,369,336 at most. */
 static size_t length_of_trace(size_t n)
 {
-    return START.length + n * STEP.length + END.length;
+    return START[NEW_LAYOUT].length + n * STEP[NEW_LAYOUT].length + END.length;
 }
 
 /* No. 7: not "past the buffer's end", and not "fewer" bytes "behind it"; by subtraction, since offset + length may wrap. */
@@ -74,7 +75,7 @@ static bool has_room(size_t buffer_len, size_t offset, size_t length)
     return buffer_len - offset >= length;
 }
 
-/* No. 7: "Checks in order"; "A refusal changes no byte." */
+/* No. 7: "Checks in order"; "A refusal changes no byte."  No. 11: the recorder takes "180 bytes only". */
 uint32_t second_record(const uint8_t *block, size_t block_len,
                        const struct pomurica_event *events, size_t events_len,
                        uint8_t *buffer, size_t buffer_len, size_t offset)

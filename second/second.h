@@ -1,10 +1,11 @@
 /*
  * A second implementation of document 01, and of No. 1, No. 2, No. 5, No. 6,
- * No. 7, No. 8, No. 9 and No. 10 of document 02, written from the papers alone,
- * to be held against the proved one.  (No. 3 changes no answer, and the table of
- * No. 4 is printed by decisions.py.)  Each function returns the number; none
- * keeps anything between calls but what is in a session.  (NULL, 0) is an empty
- * buffer, an empty list and an empty run.
+ * No. 7, No. 8, No. 9, No. 10 and No. 11 of document 02, written from the papers
+ * alone, to be held against the proved one.  (No. 3 changes no answer, and the
+ * table of No. 4 is printed by decisions.py.)  Each function returns the number;
+ * none keeps anything between calls but what is in a session.  (NULL, 0) is an
+ * empty buffer, an empty list and an empty run.  No. 11: a block has 180 bytes,
+ * and a trace may be of the old layout or of the new.
  */
 #ifndef SECOND_H
 #define SECOND_H
@@ -12,7 +13,7 @@
 #include <stddef.h>
 #include <stdint.h>
 
-/* Answer numbers: a step on a block of 176 bytes, with an answer of 8 apart from it. */
+/* Answer numbers: a step on a block of 180 bytes, with an answer of 8 apart from it. */
 uint32_t second_step(uint8_t *block, size_t block_len,
                      uint32_t code, uint32_t a, uint32_t b,
                      uint8_t *answer, size_t answer_len);
@@ -34,7 +35,7 @@ uint32_t second_open(struct pomurica_session *session);
 uint32_t second_feed(struct pomurica_session *session, const uint8_t *bytes, size_t bytes_len);
 uint32_t second_close(struct pomurica_session *session, uint8_t *report, size_t report_len);
 
-/* No. 7: the trace of a list of events from a block, which is only read, into a buffer from the offset on. */
+/* No. 7: the trace, a new one, of a list of events from a block, only read, into a buffer from the offset on. */
 uint32_t second_record(const uint8_t *block, size_t block_len,
                        const struct pomurica_event *events, size_t events_len,
                        uint8_t *buffer, size_t buffer_len, size_t offset);

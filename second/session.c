@@ -1,7 +1,8 @@
 /*
- * The session of No. 6 of document 02: a trace judged as it arrives, byte by
- * byte.  The record due is held until its last byte has come; then it is judged
- * on the last block, and nothing of it is kept but what the next one needs.
+ * The session of No. 6 of document 02: a trace of either layout (No. 11) judged
+ * as it arrives, byte by byte.  The record due is held until its last byte has
+ * come; then it is judged on the last block, and nothing of it is kept but what
+ * the next one needs.
  */
 #include "records.h"
 #include "second.h"
@@ -17,50 +18,63 @@ static bool is_over(const struct pomurica_session *session)
     return session->stage >= STAGE_OVER;
 }
 
+/* No. 11: the layout of a trace that is not over: while the Start is due by its kind, then by the stage. */
+static enum layout layout_of(const struct pomurica_session *session)
+{
+    if (session->stage == STAGE_START)
+        return second_layout_of(session->unfinished);
+    return session->stage == STAGE_NEXT ? NEW_LAYOUT : OLD_LAYOUT;
+}
+
 /* The trace: "One Start, n Steps, one End"; the one due, unless it is over. */
 static struct record record_due(const struct pomurica_session *session)
 {
     if (session->stage == STAGE_START)
-        return START;
+        return START[layout_of(session)];
     if (session->steps < session->count)
-        return STEP;
+        return STEP[layout_of(session)];
     return END;
 }
 
-/* No. 6: "one unfinished record" is kept, and this one is finished, or will never be. */
-static void let_record_go(struct pomurica_session *session)
+/* No. 6: "one unfinished record" is kept, and this one is finished; what lies behind an old one's room stays. */
+static void let_record_go(struct pomurica_session *session, enum layout layout)
 {
     session->held = 0;
-    memset(session->unfinished, 0, sizeof session->unfinished);
+    memset(session->unfinished, 0, STEP[layout].length);
 }
 
-/* No. 6: a fault's number is given "from then on": nothing is judged any more, and no block is needed for it. */
+/* No. 6: a fault's number is given "from then on": nothing is judged any more, and no byte kept, in either layout. */
 static void keep_fault(struct pomurica_session *session, enum number fault)
 {
     session->fault = fault;
+    session->held = 0;
     memset(session->block, 0, sizeof session->block);
-    let_record_go(session);
+    memset(session->unfinished, 0, sizeof session->unfinished);
 }
 
 /* The trace: a Start is BAD_COUNT by its n alone, since it "may hold a block that is not good". */
-static enum number take_start(struct pomurica_session *session)
+static enum number take_start(struct pomurica_session *session, enum layout layout)
 {
     const uint32_t n = get_word(session->unfinished + START_COUNT);
 
     if (n > MOST_STEPS)
         return BAD_COUNT;
-    session->stage = STAGE_NEXT;
+    session->stage = layout == OLD_LAYOUT ? STAGE_OLD_NEXT : STAGE_NEXT;
     session->count = n;
     session->steps = 0;
-    memcpy(session->block, session->unfinished + START_BLOCK, BLOCK_SIZE);
+    memcpy(session->block, session->unfinished + START_BLOCK, BLOCK_LENGTH[layout]);
     return DONE;
 }
 
-/* The trace: a right Step leaves its "block after" as the last block. */
-static enum number take_step(struct pomurica_session *session)
+/* The trace: a right Step leaves its "block after" as the last block; No. 11: an old one without HDCR, which is 0. */
+static enum number take_step(struct pomurica_session *session, enum layout layout)
 {
-    if (!second_is_right_step(session->unfinished, session->block))
+    uint8_t block[BLOCK_SIZE];
+
+    second_take_block(layout, session->block, block);
+    if (!second_is_right_step(layout, session->unfinished, block))
         return WRONG_STEP;
+    memcpy(session->block, block, BLOCK_LENGTH[layout]);
     session->steps++;
     return DONE;
 }
@@ -75,26 +89,27 @@ static enum number take_end(struct pomurica_session *session)
 }
 
 /* The trace: a whole record; length and kind once more, since in a session that nobody opened they were never asked. */
-static enum number take_record(struct pomurica_session *session, struct record due)
+static enum number take_record(struct pomurica_session *session, struct record due, enum layout layout)
 {
     if (!second_is_due(session->unfinished, due))
         return BAD_RECORD;
-    if (due.kind == START.kind)
-        return take_start(session);
-    if (due.kind == STEP.kind)
-        return take_step(session);
+    if (due.kind == START[layout].kind)
+        return take_start(session, layout);
+    if (due.kind == STEP[layout].kind)
+        return take_step(session, layout);
     return take_end(session);
 }
 
 /* No. 6: the record has its last byte; one found right is behind the place. */
 static enum number finish_record(struct pomurica_session *session, struct record due)
 {
-    const enum number fault = take_record(session, due);
+    const enum layout layout = layout_of(session); /* before the stage moves on */
+    const enum number fault = take_record(session, due, layout);
 
     if (fault != DONE)
         return fault;
     session->place += due.length;
-    let_record_go(session);
+    let_record_go(session, layout);
     return DONE;
 }
 
@@ -108,11 +123,11 @@ static enum number take_byte(struct pomurica_session *session, uint8_t byte)
 
     if (is_over(session))
         return TRAILING;
-    due = record_due(session);
-    if (session->held >= due.length) /* no feeding leaves it so: nobody opened this session */
+    if (session->held >= record_due(session).length) /* no feeding leaves it so: nobody opened this session */
         return DONE;
     session->unfinished[session->held] = byte;
     session->held++;
+    due = record_due(session); /* by the kind, if this byte is of a Start's */
     if (session->held == HEADER_SIZE && !second_is_due(session->unfinished, due))
         return BAD_RECORD;
     if (session->held == due.length)

@@ -1,8 +1,9 @@
 /*
- * The step, in the order of document 01, with No. 5, No. 8, No. 9 and No. 10 of
- * document 02.  The block's bytes are read into words once, every rule speaks of
- * words, and they go back as bytes only when the step is DONE.
+ * The step, in the order of document 01, with No. 5, No. 8, No. 9, No. 10 and
+ * No. 11 of document 02.  The block's bytes are read into words once, every rule
+ * speaks of words, and they go back as bytes only when the step is DONE.
  */
+#include "records.h"
 #include "second.h"
 #include "words.h"
 
@@ -10,12 +11,12 @@
 
 /* ------------------------------------------------------ The state block */
 
-/* The state block: 44 words, by place. */
+/* The state block: 45 words, by place. */
 struct block {
     uint32_t word[PLACES];
 };
 
-/* The state block: the words of 176 bytes. */
+/* The state block: the words of 180 bytes. */
 static struct block read_block(const uint8_t *bytes)
 {
     struct block block;
@@ -25,7 +26,7 @@ static struct block read_block(const uint8_t *bytes)
     return block;
 }
 
-/* The state block: the words back into their 176 bytes. */
+/* The state block: the words back into their 180 bytes. */
 static void write_block(uint8_t *bytes, const struct block *block)
 {
     for (uint32_t place = 0; place < PLACES; place++)
@@ -111,14 +112,14 @@ static const struct {
     [CODE_SVC]             = { 0, 0 },
     [CODE_SMC]             = { 0, 0 },
     [CODE_HVC]             = { 0, 0 },
-    [CODE_PREFETCH_ABORT]  = { 3, 0 },
+    [CODE_PREFETCH_ABORT]  = { 4, 0 }, /* No. 11: "4 with 1 or 2 is BAD_EVENT" */
     [CODE_DATA_ABORT]      = { 3, 0 },
     [CODE_HYP_TRAP]        = { 0, 0 },
     [CODE_MONITOR_TRAP]    = { 0, 0 },
     [CODE_INTERRUPT_CHECK] = { 31, 0 },
     [CODE_BANKED_READ]     = { 63, 0 },
     [CODE_BANKED_WRITE]    = { 63, UINT32_MAX },
-    [CODE_NOTE]            = { 43, UINT32_MAX },
+    [CODE_NOTE]            = { 44, UINT32_MAX },
     [CODE_RETURN]          = { 8, 0 },
 };
 
@@ -138,6 +139,12 @@ static bool is_external(const struct event *event)
 static bool is_stage_2(const struct event *event)
 {
     return is_abort(event) && (event->a & ABORT_STAGE_2) != 0;
+}
+
+/* No. 11: "4, debug", of a Prefetch Abort alone. */
+static bool is_debug(const struct event *event)
+{
+    return event->code == CODE_PREFETCH_ABORT && event->a == ABORT_DEBUG;
 }
 
 /* Events: codes 10 and 11. */
@@ -324,6 +331,14 @@ static bool goes_to_monitor(const struct block *block, const struct event *event
     return is_external(event) && is_one(block, SCR, SCR_EA);
 }
 
+/* No. 11: "A debug abort from Non-secure User or NS EL1 goes to Hyp, .. if HDCR.TDE (bit 8) is 1; else as before". */
+static bool is_debug_to_hyp(const struct block *block, const struct event *event)
+{
+    if (is_secure(block) || mode_of(block) == MODE_HYP)
+        return false;
+    return is_debug(event) && is_one(block, HDCR, HDCR_TDE);
+}
+
 /* Routing: "To Hyp". */
 static bool goes_to_hyp(const struct block *block, const struct event *event,
                         enum exception exception)
@@ -341,6 +356,8 @@ static bool goes_to_hyp(const struct block *block, const struct event *event,
         return true;
     if (one_of_four && mode_of(block) == MODE_USER && !is_secure(block) &&
         is_one(block, HCR, HCR_TGE))
+        return true;
+    if (is_debug_to_hyp(block, event))
         return true;
     return is_stage_2(event);
 }
@@ -893,6 +910,26 @@ static uint32_t perform_return(struct block *block, uint32_t a)
     return 0;
 }
 
+/* ---------------------------------------------------------- The layouts */
+
+/* No. 11: "Kinds 1 and 2 are still read, with HDCR 0, and there debug and notes on place 44 are BAD_EVENT". */
+static bool is_unknown_in(enum layout layout, const struct event *event)
+{
+    if (layout == OLD_LAYOUT)
+        return is_debug(event) || (event->code == CODE_NOTE && event->a == HDCR);
+    return false;
+}
+
+/* No. 11: the event by the rules of a layout: one that it does not know has no code.  No other rule asks for it. */
+static struct event event_in(enum layout layout, struct event event)
+{
+    static const uint32_t NO_CODE = 0;
+
+    if (is_unknown_in(layout, &event))
+        event.code = NO_CODE;
+    return event;
+}
+
 /* ------------------------------------------------------------- The step */
 
 /* Answer numbers: what an event not refused does to the block; gives the value. */
@@ -916,26 +953,19 @@ static uint32_t act(struct block *block, const struct event *event)
     }
 }
 
-/* Answer numbers: the block, the event and an 8-byte answer buffer. */
-uint32_t second_step(uint8_t *block, size_t block_len,
-                     uint32_t code, uint32_t a, uint32_t b,
-                     uint8_t *answer, size_t answer_len)
+/* No. 11: the step "by the rules that hold for that layout". */
+uint32_t second_step_in(enum layout layout, uint8_t *block, uint32_t code, uint32_t a, uint32_t b, uint8_t *answer)
 {
-    const struct event event = { code, a, b };
-    struct block words;
-    enum number number;
+    const struct event event = event_in(layout, (struct event){ code, a, b });
+    struct block words = read_block(block);
+    enum number number = refusal_of(&words, &event);
     uint32_t value = 0;
 
-    if (block_len != BLOCK_SIZE || answer_len != ANSWER_SIZE)
-        return BAD_SIZE;
-
-    words = read_block(block);
-    number = refusal_of(&words, &event);
     if (number == DONE)
         value = act(&words, &event);
 
     /* "A note is then tested on the block it would make"; its value is 0 either way. */
-    if (number == DONE && code == CODE_NOTE)
+    if (number == DONE && event.code == CODE_NOTE)
         number = refusal_of_block(&words);
 
     if (number == DONE)
@@ -943,4 +973,14 @@ uint32_t second_step(uint8_t *block, size_t block_len,
     put_word(answer, number);
     put_word(answer + 4, value);
     return number;
+}
+
+/* Answer numbers: the block, the event and an 8-byte answer buffer; No. 11: "The C console passes 180 bytes". */
+uint32_t second_step(uint8_t *block, size_t block_len,
+                     uint32_t code, uint32_t a, uint32_t b,
+                     uint8_t *answer, size_t answer_len)
+{
+    if (block_len != BLOCK_SIZE || answer_len != ANSWER_SIZE)
+        return BAD_SIZE;
+    return second_step_in(NEW_LAYOUT, block, code, a, b, answer);
 }

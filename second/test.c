@@ -1,7 +1,8 @@
 /*
  * The worked cases of document 01, "Numbers to hold against it", a to l, and
- * cases of our own for No. 1, No. 2, No. 5, No. 6, No. 7, No. 8, No. 9 and
- * No. 10 of document 02: each is run and printed.  Exit status 1 if one differs.
+ * cases of our own for No. 1, No. 2, No. 5, No. 6, No. 7, No. 8, No. 9, No. 10
+ * and No. 11 of document 02: each is run and printed.  Exit status 1 if one
+ * differs.
  *
  *     cc -std=c11 -Wall -Wextra -Werror -O2 -I../host step.c batch.c check.c count.c session.c record.c test.c -o test &&
  *         ./test
@@ -25,7 +26,7 @@ struct named {
 struct worked_case {
     const char *name;
     uint32_t start[PLACES];
-    uint32_t code, a;
+    uint32_t code, a, b;
     uint32_t number, value;
     struct named after[4];
     uint32_t named;
@@ -113,7 +114,7 @@ static void run_case(const struct worked_case *worked)
     memcpy(block, before, sizeof block);
     memset(answer, 0xAA, sizeof answer);
 
-    number = second_step(block, sizeof block, worked->code, worked->a, 0,
+    number = second_step(block, sizeof block, worked->code, worked->a, worked->b,
                          answer, sizeof answer);
 
     right = number == worked->number && get_word(answer) == worked->number &&
@@ -158,11 +159,19 @@ static const uint8_t SHORTEST[192] = {
     [184] = 0x08, 0x00, 0x03, 0x00, 0x00, 0x00, 0x00, 0x00,
 };
 
+/* No. 11: the same in the new layout, 196 bytes. */
+static const uint8_t SHORTEST_NEW[196] = {
+    [0] = 0xBC, 0x00, 0x04, 0x00,
+    [188] = 0x08, 0x00, 0x03, 0x00, 0x00, 0x00, 0x00, 0x00,
+};
+
 static void run_l(void)
 {
     run_trace("l", SHORTEST, 192, DONE, 192, 0);
     run_trace("l, cut", SHORTEST, 191, SHORT, 184, 0);
     run_trace("l, empty", NULL, 0, SHORT, 0, 0);
+    run_trace("l, new", SHORTEST_NEW, 196, DONE, 196, 0);
+    run_trace("l, new, cut", SHORTEST_NEW, 195, SHORT, 188, 0);
 }
 
 /* No. 1: the events of a trace that begins in Non-secure Supervisor, each with what it comes to. */
@@ -188,14 +197,36 @@ static const char ONCE[] = "1 0 1\n1 2 1\n1 3 1\n1 4 1\n1 9 3\n1 10 2\n1 13 2\n2
 static const char TWICE[] = "1 0 2\n1 2 2\n1 3 2\n1 4 2\n1 9 6\n1 10 4\n1 13 4\n2 0 8\n2 4 8\n2 6 2\n2 16 2\n2 17 2\n"
                             "3 18 2\n3 26 2\n4 0 2\n4 3 2\n";
 
-/* The trace: the lengths of the records, and of the trace of COUNTED. */
+/* The trace, No. 11: lengths and kinds of the records with a block, and its own length there, by layout. */
+static const struct {
+    uint32_t start, start_kind;
+    uint32_t step, step_kind;
+    uint32_t block;
+} LAYOUT[LAYOUTS] = {
+    [OLD_LAYOUT] = { 184, 1, 200, 2, 176 },
+    [NEW_LAYOUT] = { 188, 4, 204, 5, 180 },
+};
+
+/* The trace: the lengths of the records, and of the trace of COUNTED, in the new layout, where they are longer. */
 enum {
-    START_LENGTH = (int)START_BLOCK + BLOCK_SIZE,
-    STEP_LENGTH = (int)STEP_BLOCK + BLOCK_SIZE,
+    START_LENGTH = 188,
+    STEP_LENGTH = 204,
     END_LENGTH = END_COUNT + 4,
     COUNTED_STEPS = sizeof COUNTED / sizeof COUNTED[0],
     COUNTED_LENGTH = START_LENGTH + COUNTED_STEPS * STEP_LENGTH + END_LENGTH
 };
+
+/* The trace: where a Step begins, counted from 0, and behind the last one the End. */
+static uint32_t place_of(enum layout layout, uint32_t step)
+{
+    return LAYOUT[layout].start + step * LAYOUT[layout].step;
+}
+
+/* The trace: how long one of n Steps is. */
+static uint32_t length_of(enum layout layout, uint32_t n)
+{
+    return place_of(layout, n) + END_LENGTH;
+}
 
 /* The trace: "two-byte length of the whole record, two-byte kind". */
 static void put_header(uint8_t *record, uint32_t length, uint32_t kind)
@@ -203,28 +234,59 @@ static void put_header(uint8_t *record, uint32_t length, uint32_t kind)
     put_word(record, length | kind << 16);
 }
 
-/* The trace: the records of COUNTED. */
-static void record_counted(uint8_t *trace)
+/* The trace: a Start, of a block of 180 bytes. */
+static void put_start(uint8_t *start, enum layout layout, uint32_t n, const uint8_t *block)
+{
+    put_header(start, LAYOUT[layout].start, LAYOUT[layout].start_kind);
+    put_word(start + START_COUNT, n);
+    memcpy(start + START_BLOCK, block, LAYOUT[layout].block);
+}
+
+/* The trace: a Step, with a block after it of 180 bytes. */
+static void put_step(uint8_t *step, enum layout layout, struct pomurica_event event, struct pomurica_answer answer,
+                     const uint8_t *block)
+{
+    put_header(step, LAYOUT[layout].step, LAYOUT[layout].step_kind);
+    put_word(step + STEP_CODE, event.code);
+    put_word(step + STEP_A, event.a);
+    put_word(step + STEP_B, event.b);
+    put_word(step + STEP_ANSWER, answer.number);
+    put_word(step + STEP_VALUE, answer.value);
+    memcpy(step + STEP_BLOCK, block, LAYOUT[layout].block);
+}
+
+/* The trace: an End. */
+static void put_end(uint8_t *end, uint32_t n)
+{
+    put_header(end, END_LENGTH, 3);
+    put_word(end + END_COUNT, n);
+}
+
+/* The trace: what a direct step answers, which moves the block. */
+static struct pomurica_answer answer_of(uint8_t *block, struct pomurica_event event)
+{
+    uint8_t answer[ANSWER_SIZE];
+
+    second_step(block, BLOCK_SIZE, event.code, event.a, event.b, answer, sizeof answer);
+    return (struct pomurica_answer){ get_word(answer), get_word(answer + 4) };
+}
+
+/* The trace: the records of COUNTED; HDCR is in those of the new layout alone, and steers none of its Steps. */
+static void record_counted(uint8_t *trace, enum layout layout)
 {
     uint8_t block[BLOCK_SIZE] = { 0 };
-    uint8_t *record = trace;
 
     put_word(block + 4 * SCR, SCR_NS | SCR_SCD | SCR_HCE);
     put_word(block + 4 * CPSR, MODE_SUPERVISOR);
-    put_header(record, START_LENGTH, 1);
-    put_word(record + START_COUNT, COUNTED_STEPS);
-    memcpy(record + START_BLOCK, block, sizeof block);
-    record += START_LENGTH;
-    for (size_t i = 0; i < COUNTED_STEPS; i++, record += STEP_LENGTH) {
-        put_header(record, STEP_LENGTH, 2);
-        put_word(record + STEP_CODE, COUNTED[i].code);
-        put_word(record + STEP_A, COUNTED[i].a);
-        put_word(record + STEP_B, 0);
-        second_step(block, sizeof block, COUNTED[i].code, COUNTED[i].a, 0, record + STEP_ANSWER, ANSWER_SIZE);
-        memcpy(record + STEP_BLOCK, block, sizeof block);
+    put_word(block + 4 * HDCR, 0x600DCAFE);
+    put_start(trace, layout, COUNTED_STEPS, block);
+    for (uint32_t i = 0; i < COUNTED_STEPS; i++) {
+        const struct pomurica_event event = { COUNTED[i].code, COUNTED[i].a, 0 };
+        const struct pomurica_answer answer = answer_of(block, event);
+
+        put_step(trace + place_of(layout, i), layout, event, answer, block);
     }
-    put_header(record, END_LENGTH, 3);
-    put_word(record + END_COUNT, COUNTED_STEPS);
+    put_end(trace + place_of(layout, COUNTED_STEPS), COUNTED_STEPS);
 }
 
 /* No. 1: counts the bytes, and prints the number; right if it is that one. */
@@ -254,24 +316,25 @@ static void run_lines(const char *name, const uint8_t *counts, const char *text)
 }
 
 /* No. 1: counts from nothing to the last that fits; the last count is that of IRQs taken. */
-static void run_counts(void)
+static void run_counts(enum layout layout)
 {
+    const size_t length = length_of(layout, COUNTED_STEPS);
     uint8_t trace[COUNTED_LENGTH], counts[COUNTS_SIZE] = { 0 };
     uint8_t *last = counts + 4 * (32 * (4 - 1) + 3);
 
-    record_counted(trace);
+    record_counted(trace, layout);
     run_lines("no counts", counts, "");
-    run_count("counts", trace, sizeof trace, counts, DONE);
+    run_count("counts", trace, length, counts, DONE);
     run_lines("counts", counts, ONCE);
-    run_count("counts, cut", trace, sizeof trace - 1, counts, SHORT);
+    run_count("counts, cut", trace, length - 1, counts, SHORT);
     put_word(last, UINT32_MAX);
-    run_count("counts, full", trace, sizeof trace, counts, FULL);
+    run_count("counts, full", trace, length, counts, FULL);
     put_word(last, 1);
     run_lines("counts stay", counts, ONCE);
-    run_count("counts twice", trace, sizeof trace, counts, DONE);
+    run_count("counts twice", trace, length, counts, DONE);
     run_lines("counts twice", counts, TWICE);
     put_word(last, UINT32_MAX - 1);
-    run_count("counts, most", trace, sizeof trace, counts, DONE);
+    run_count("counts, most", trace, length, counts, DONE);
 }
 
 /* No. 2: a list that begins in Non-secure Supervisor, as case a does, with HCE 1. */
@@ -377,9 +440,10 @@ static void run_batches(void)
     run_lengths("batch, none", 0, 0, BLOCK_SIZE, DONE);
     run_lengths("batch, fewer", LISTED, LISTED - 1, BLOCK_SIZE, BAD_SIZE);
     run_lengths("batch, more", LISTED - 1, LISTED, BLOCK_SIZE, BAD_SIZE);
-    run_lengths("batch, 175", LISTED, LISTED, BLOCK_SIZE - 1, BAD_SIZE);
-    run_lengths("batch, 177", LISTED, LISTED, BLOCK_SIZE + 1, BAD_SIZE);
-    run_lengths("none, 175", 0, 0, BLOCK_SIZE - 1, BAD_SIZE);
+    run_lengths("batch, 176", LISTED, LISTED, OLD_BLOCK_SIZE, BAD_SIZE);
+    run_lengths("batch, 179", LISTED, LISTED, BLOCK_SIZE - 1, BAD_SIZE);
+    run_lengths("batch, 181", LISTED, LISTED, BLOCK_SIZE + 1, BAD_SIZE);
+    run_lengths("none, 176", 0, 0, OLD_BLOCK_SIZE, BAD_SIZE);
 }
 
 /* No. 5: HCR with each virtual source set, and with each override bit 1. */
@@ -446,46 +510,79 @@ enum {
     ONE_LENGTH = START_LENGTH + STEP_LENGTH + END_LENGTH
 };
 
-/* The trace: a case as a trace of one Step, which says DONE, with the value 0 and a block that stayed. */
-static void record_nothing(uint8_t *trace, const struct worked_case *worked)
+/* The trace: one Step from a block of 180 bytes, with an answer and a block after it. */
+static void record_one(uint8_t *trace, enum layout layout, const uint8_t *before, struct pomurica_event event,
+                       struct pomurica_answer answer, const uint8_t *after)
 {
-    uint8_t *step = trace + START_LENGTH, *end = step + STEP_LENGTH;
+    put_start(trace, layout, 1, before);
+    put_step(trace + place_of(layout, 0), layout, event, answer, after);
+    put_end(trace + place_of(layout, 1), 1);
+}
 
-    memset(trace, 0, ONE_LENGTH);
-    put_header(trace, START_LENGTH, 1);
-    put_word(trace + START_COUNT, 1);
+/* Numbers to hold against it: the block and the event of a case. */
+static void put_case_block(uint8_t *block, const struct worked_case *worked)
+{
     for (uint32_t place = 0; place < PLACES; place++)
-        put_word(trace + START_BLOCK + 4 * place, worked->start[place]);
-    put_header(step, STEP_LENGTH, 2);
-    put_word(step + STEP_CODE, worked->code);
-    put_word(step + STEP_A, worked->a);
-    memcpy(step + STEP_BLOCK, trace + START_BLOCK, BLOCK_SIZE);
-    put_header(end, END_LENGTH, 3);
-    put_word(end + END_COUNT, 1);
+        put_word(block + 4 * place, worked->start[place]);
+}
+
+static struct pomurica_event event_of(const struct worked_case *worked)
+{
+    return (struct pomurica_event){ worked->code, worked->a, worked->b };
+}
+
+/* The trace: a case as a trace of one Step, which says this number, with the value 0 and a block that stayed. */
+static void record_stayed(uint8_t *trace, enum layout layout, const struct worked_case *worked, uint32_t number)
+{
+    uint8_t block[BLOCK_SIZE];
+
+    put_case_block(block, worked);
+    record_one(trace, layout, block, event_of(worked), (struct pomurica_answer){ number, 0 }, block);
 }
 
 /* The trace: the same with what the rules give, where some bits of SCR are turned round, and turned back behind the step. */
-static void record_turned(uint8_t *trace, const struct worked_case *worked, uint32_t scr_bits)
+static void record_turned(uint8_t *trace, enum layout layout, const struct worked_case *worked, uint32_t scr_bits)
 {
-    uint8_t *step = trace + START_LENGTH, *block = step + STEP_BLOCK, *scr = block + 4 * SCR;
+    uint8_t before[BLOCK_SIZE], after[BLOCK_SIZE];
+    uint8_t *scr = after + 4 * SCR;
+    struct pomurica_answer answer;
 
-    record_nothing(trace, worked);
+    put_case_block(before, worked);
+    memcpy(after, before, sizeof after);
     put_word(scr, get_word(scr) ^ scr_bits);
-    second_step(block, BLOCK_SIZE, worked->code, worked->a, 0, step + STEP_ANSWER, ANSWER_SIZE);
+    answer = answer_of(after, event_of(worked));
     put_word(scr, get_word(scr) ^ scr_bits);
+    record_one(trace, layout, before, event_of(worked), answer, after);
+}
+
+/* The trace: one of one Step, which is right, or WRONG_STEP. */
+static void run_one(const char *name, const uint8_t *trace, enum layout layout, uint32_t number)
+{
+    const uint32_t length = length_of(layout, 1);
+
+    if (number == DONE)
+        run_trace(name, trace, length, DONE, length, 1);
+    else
+        run_trace(name, trace, length, number, place_of(layout, 0), 0);
 }
 
 /* No. 5: "old traces that show the former answer are now WRONG_STEP"; the former answer to the first case is nothing taken. */
-static void run_tge(void)
+static void run_tge_traces(enum layout layout)
 {
     uint8_t trace[ONE_LENGTH];
 
+    record_stayed(trace, layout, &TGE_CASES[0], DONE);
+    run_one("trace before", trace, layout, WRONG_STEP);
+    record_turned(trace, layout, &TGE_CASES[0], 0);
+    run_one("trace after", trace, layout, DONE);
+}
+
+static void run_tge(void)
+{
     for (size_t i = 0; i < TGE_CASE_COUNT; i++)
         run_case(&TGE_CASES[i]);
-    record_nothing(trace, &TGE_CASES[0]);
-    run_trace("trace before", trace, sizeof trace, WRONG_STEP, START_LENGTH, 0);
-    record_turned(trace, &TGE_CASES[0], 0);
-    run_trace("trace after", trace, sizeof trace, DONE, sizeof trace, 1);
+    run_tge_traces(OLD_LAYOUT);
+    run_tge_traces(NEW_LAYOUT);
 }
 
 /* No. 6: whether a report is "the number, place and Steps" that are due. */
@@ -509,22 +606,22 @@ static bool closes_with(struct pomurica_session *session, uint32_t number, uint3
 }
 
 /* No. 6: "However the bytes were cut": l, cut in two in every way, with an empty run before, between and behind. */
-static void run_cuts(void)
+static void run_cuts(const uint8_t *shortest, uint32_t length)
 {
     unsigned cuts = 0;
 
-    for (size_t cut = 0; cut <= sizeof SHORTEST; cut++) {
+    for (uint32_t cut = 0; cut <= length; cut++) {
         struct pomurica_session session;
 
         memset(&session, 0xAA, sizeof session);
         if (second_open(&session) == DONE && second_feed(&session, NULL, 0) == DONE &&
-            second_feed(&session, SHORTEST, cut) == DONE && second_feed(&session, NULL, 0) == DONE &&
-            second_feed(&session, SHORTEST + cut, sizeof SHORTEST - cut) == DONE &&
-            second_feed(&session, NULL, 0) == DONE && closes_with(&session, DONE, 192, 0))
+            second_feed(&session, shortest, cut) == DONE && second_feed(&session, NULL, 0) == DONE &&
+            second_feed(&session, shortest + cut, length - cut) == DONE &&
+            second_feed(&session, NULL, 0) == DONE && closes_with(&session, DONE, length, 0))
             cuts++;
     }
     printf("%-12s  in %u ways", "l in two", cuts);
-    tell(cuts == sizeof SHORTEST + 1);
+    tell(cuts == length + 1);
 }
 
 /* No. 6: feeds a byte at a time; gives how many came before this fault was known, or SIZE_MAX if it did not stay. */
@@ -558,97 +655,106 @@ static void run_known(const char *name, const uint8_t *trace, size_t length, siz
     tell(right);
 }
 
-/* The trace: where the last Step and the End of COUNTED begin. */
-enum {
-    COUNTED_END = COUNTED_LENGTH - END_LENGTH,
-    COUNTED_LAST = COUNTED_END - STEP_LENGTH
-};
-
 /* No. 6: COUNTED with one byte changed; the fault is known with this byte of the record at this place. */
-static void run_changed(const char *name, size_t changed, uint8_t byte, size_t known,
+static void run_changed(enum layout layout, const char *name, size_t changed, uint8_t byte, size_t known,
                         uint32_t number, uint32_t place, uint32_t steps)
 {
     uint8_t trace[COUNTED_LENGTH];
 
-    record_counted(trace);
+    record_counted(trace, layout);
     trace[changed] = byte;
-    run_known(name, trace, sizeof trace, place + known - 1, number, place, steps);
+    run_known(name, trace, length_of(layout, COUNTED_STEPS), place + known - 1, number, place, steps);
 }
 
 /* No. 6: "known with a record's fourth byte, TRAILING with its first byte, the others with the record's last". */
-static void run_faults(void)
+static void run_faults(enum layout layout)
 {
+    const uint32_t start = LAYOUT[layout].start, step = LAYOUT[layout].step, length = length_of(layout, COUNTED_STEPS);
+    const uint32_t last = place_of(layout, COUNTED_STEPS - 1), end = place_of(layout, COUNTED_STEPS);
     uint8_t trace[2 * COUNTED_LENGTH];
 
-    run_changed("length", 0, 0xB9, 4, BAD_RECORD, 0, 0);
-    run_changed("kind", 3, 1, 4, BAD_RECORD, 0, 0);
-    run_changed("Step's kind", COUNTED_LAST + 2, 3, 4, BAD_RECORD, COUNTED_LAST, COUNTED_STEPS - 1);
-    run_changed("End's length", COUNTED_END, 9, 4, BAD_RECORD, COUNTED_END, COUNTED_STEPS);
-    run_changed("n above", START_COUNT + 2, 1, START_LENGTH, BAD_COUNT, 0, 0);
-    run_changed("End's n", COUNTED_END + END_COUNT, 0, END_LENGTH, BAD_COUNT, COUNTED_END, COUNTED_STEPS);
-    run_changed("wrong value", COUNTED_LAST + STEP_VALUE, 1, STEP_LENGTH, WRONG_STEP, COUNTED_LAST, COUNTED_STEPS - 1);
-    record_counted(trace);
-    record_counted(trace + COUNTED_LENGTH);
-    run_known("once more", trace, sizeof trace, COUNTED_LENGTH, TRAILING, COUNTED_LENGTH, COUNTED_STEPS);
+    run_changed(layout, "length", 0, 0xB9, 4, BAD_RECORD, 0, 0);
+    run_changed(layout, "kind", 3, 1, 4, BAD_RECORD, 0, 0);
+    run_changed(layout, "Step's kind", last + 2, 3, 4, BAD_RECORD, last, COUNTED_STEPS - 1);
+    run_changed(layout, "End's length", end, 9, 4, BAD_RECORD, end, COUNTED_STEPS);
+    run_changed(layout, "n above", START_COUNT + 2, 1, start, BAD_COUNT, 0, 0);
+    run_changed(layout, "End's n", end + END_COUNT, 0, END_LENGTH, BAD_COUNT, end, COUNTED_STEPS);
+    run_changed(layout, "wrong value", last + STEP_VALUE, 1, step, WRONG_STEP, last, COUNTED_STEPS - 1);
+    run_changed(layout, "wrong word", end - 1, 1, step, WRONG_STEP, last, COUNTED_STEPS - 1);
+    record_counted(trace, layout);
+    record_counted(trace + length, layout);
+    run_known("once more", trace, 2 * length, length, TRAILING, length, COUNTED_STEPS);
 }
 
 /* No. 6: "SHORT is given only at closing", whatever the part that is there says. */
-static void run_short(void)
+static void run_short(enum layout layout)
 {
+    const uint32_t last = place_of(layout, COUNTED_STEPS - 1), end = place_of(layout, COUNTED_STEPS);
+    const uint32_t start = LAYOUT[layout].start, length = length_of(layout, COUNTED_STEPS);
     uint8_t trace[COUNTED_LENGTH];
 
-    record_counted(trace);
-    run_known("whole", trace, sizeof trace, sizeof trace, DONE, COUNTED_LENGTH, COUNTED_STEPS);
+    record_counted(trace, layout);
+    run_known("whole", trace, length, length, DONE, length, COUNTED_STEPS);
     run_known("no bytes", NULL, 0, 0, SHORT, 0, 0);
-    run_known("no End", trace, COUNTED_END, COUNTED_END, SHORT, COUNTED_END, COUNTED_STEPS);
-    run_known("no last byte", trace, sizeof trace - 1, sizeof trace - 1, SHORT, COUNTED_END, COUNTED_STEPS);
-    trace[COUNTED_LAST + STEP_VALUE] = 1;
-    run_known("cut, wrong", trace, COUNTED_END - 1, COUNTED_END - 1, SHORT, COUNTED_LAST, COUNTED_STEPS - 1);
+    run_known("cut Start", trace, start - 1, start - 1, SHORT, 0, 0);
+    run_known("no Step", trace, start, start, SHORT, start, 0);
+    run_known("no End", trace, end, end, SHORT, end, COUNTED_STEPS);
+    run_known("no last byte", trace, length - 1, length - 1, SHORT, end, COUNTED_STEPS);
+    trace[last + STEP_VALUE] = 1;
+    run_known("cut, wrong", trace, end - 1, end - 1, SHORT, last, COUNTED_STEPS - 1);
     trace[0] = 0;
     run_known("3 bytes", trace, 3, 3, SHORT, 0, 0);
 }
 
 /* No. 6: so many bytes of COUNTED, and one more 0 behind it, leave a session that is this one. */
-static void run_kept(const char *name, size_t fed, const struct pomurica_session *kept)
+static void run_kept(enum layout layout, const char *name, size_t fed, const struct pomurica_session *kept)
 {
     uint8_t trace[COUNTED_LENGTH + 1] = { 0 };
     struct pomurica_session session;
 
-    record_counted(trace);
+    record_counted(trace, layout);
     second_open(&session);
     second_feed(&session, trace, fed);
     printf("%-12s  %u held of the record at %u", name, (unsigned)session.held, (unsigned)session.place);
     tell(memcmp(&session, kept, sizeof session) == 0);
 }
 
-/* No. 6: "no more than the last block and one unfinished record", and neither once a fault is known. */
-static void run_keeping(void)
+/* No. 6: "no more than the last block and one unfinished record", and neither with a fault; No. 11: of its layout. */
+static void run_keeping(enum layout layout)
 {
-    struct pomurica_session kept = { .stage = STAGE_START, .held = START_LENGTH - 1 };
+    const uint32_t next = layout == OLD_LAYOUT ? STAGE_OLD_NEXT : STAGE_NEXT;
+    const uint32_t last = place_of(layout, COUNTED_STEPS - 1), end = place_of(layout, COUNTED_STEPS);
+    const uint32_t start = LAYOUT[layout].start, block = LAYOUT[layout].block;
+    const uint32_t length = length_of(layout, COUNTED_STEPS);
+    struct pomurica_session kept = { .stage = STAGE_START, .held = start - 1 };
     uint8_t trace[COUNTED_LENGTH];
 
-    record_counted(trace);
+    record_counted(trace, layout);
     memcpy(kept.unfinished, trace, kept.held);
-    run_kept("in Start", kept.held, &kept);
+    run_kept(layout, "in Start", kept.held, &kept);
 
-    kept = (struct pomurica_session){ .stage = STAGE_NEXT, .count = COUNTED_STEPS, .place = START_LENGTH };
-    memcpy(kept.block, trace + START_BLOCK, BLOCK_SIZE);
-    run_kept("Start", START_LENGTH, &kept);
+    kept = (struct pomurica_session){ .stage = next, .count = COUNTED_STEPS, .place = start };
+    memcpy(kept.block, trace + START_BLOCK, block);
+    run_kept(layout, "Start", start, &kept);
 
     kept.steps = COUNTED_STEPS - 1;
-    kept.place = COUNTED_LAST;
+    kept.place = last;
     kept.held = HEADER_SIZE;
-    memcpy(kept.block, trace + COUNTED_LAST - BLOCK_SIZE, BLOCK_SIZE);
-    memcpy(kept.unfinished, trace + COUNTED_LAST, HEADER_SIZE);
-    run_kept("in Step", COUNTED_LAST + HEADER_SIZE, &kept);
+    memcpy(kept.block, trace + last - block, block);
+    memcpy(kept.unfinished, trace + last, HEADER_SIZE);
+    run_kept(layout, "in Step", last + HEADER_SIZE, &kept);
 
-    kept = (struct pomurica_session){ STAGE_OVER, COUNTED_STEPS, COUNTED_STEPS, COUNTED_LENGTH, 0, DONE, 0, { 0 }, { 0 } };
-    memcpy(kept.block, trace + COUNTED_END - BLOCK_SIZE, BLOCK_SIZE);
-    run_kept("End", COUNTED_LENGTH, &kept);
+    kept.held = LAYOUT[layout].step - 1;
+    memcpy(kept.unfinished, trace + last, kept.held);
+    run_kept(layout, "all but one", end - 1, &kept);
+
+    kept = (struct pomurica_session){ STAGE_OVER, COUNTED_STEPS, COUNTED_STEPS, length, 0, DONE, 0, { 0 }, { 0 } };
+    memcpy(kept.block, trace + end - block, block);
+    run_kept(layout, "End", length, &kept);
 
     kept.fault = TRAILING;
-    memset(kept.block, 0, BLOCK_SIZE);
-    run_kept("one more", COUNTED_LENGTH + 1, &kept);
+    memset(kept.block, 0, sizeof kept.block);
+    run_kept(layout, "one more", length + 1, &kept);
 }
 
 /* No. 6: a report of another size changes nothing, and the session is as open as it was. */
@@ -672,24 +778,22 @@ static void run_report_sizes(void)
     tell(right && closes_with(&session, DONE, 192, 0));
 }
 
-static void run_sessions(void)
+static void run_sessions(enum layout layout)
 {
-    run_cuts();
-    run_faults();
-    run_short();
-    run_keeping();
-    run_report_sizes();
+    run_faults(layout);
+    run_short(layout);
+    run_keeping(layout);
 }
 
 /* No. 7: one Step, from a block without a known mode, for an event without a known code: every byte by hand. */
 static const struct pomurica_event UNKNOWN = { 0x04030201, 0x08070605, 0x0C0B0A09 };
 static const uint8_t ONE_STEP[ONE_LENGTH] = {
-    [0] = 0xB8, 0x00, 0x01, 0x00, 0x01, 0x00, 0x00, 0x00, /* n */
-    [8] = 0x11, [183] = 0x22,                             /* the block's first byte and its last */
-    [184] = 0xC8, 0x00, 0x02, 0x00, 0x01, 0x02, 0x03, 0x04, 0x05, 0x06, 0x07, 0x08, 0x09, 0x0A, 0x0B, 0x0C,
-    [200] = 0x02, 0x00, 0x00, 0x00, /* BAD_MODE, and the value 0 */
-    [208] = 0x11, [383] = 0x22,
-    [384] = 0x08, 0x00, 0x03, 0x00, 0x01, 0x00, 0x00, 0x00,
+    [0] = 0xBC, 0x00, 0x04, 0x00, 0x01, 0x00, 0x00, 0x00, /* n */
+    [8] = 0x11, [187] = 0x22,                             /* the block's first byte and its last */
+    [188] = 0xCC, 0x00, 0x05, 0x00, 0x01, 0x02, 0x03, 0x04, 0x05, 0x06, 0x07, 0x08, 0x09, 0x0A, 0x0B, 0x0C,
+    [204] = 0x02, 0x00, 0x00, 0x00, /* BAD_MODE, and the value 0 */
+    [212] = 0x11, [391] = 0x22,
+    [392] = 0x08, 0x00, 0x03, 0x00, 0x01, 0x00, 0x00, 0x00,
 };
 
 enum {
@@ -790,19 +894,20 @@ static void run_refused(const char *name, size_t block_len, size_t events_len, s
 /* No. 7: "Checks in order": the first that refuses gives the number, also where one behind it would refuse. */
 static void run_refusals(void)
 {
-    run_refused("block 175", BLOCK_SIZE - 1, 0, ROOM, 0, BAD_SIZE);
-    run_refused("block 177", BLOCK_SIZE + 1, 0, ROOM, 0, BAD_SIZE);
-    run_refused("all three", BLOCK_SIZE - 1, MOST_LISTED + 1, 0, 1, BAD_SIZE);
+    run_refused("block 176", OLD_BLOCK_SIZE, 0, ROOM, 0, BAD_SIZE);
+    run_refused("block 179", BLOCK_SIZE - 1, 0, ROOM, 0, BAD_SIZE);
+    run_refused("block 181", BLOCK_SIZE + 1, 0, ROOM, 0, BAD_SIZE);
+    run_refused("all three", OLD_BLOCK_SIZE, MOST_LISTED + 1, 0, 1, BAD_SIZE);
     run_refused("65536", BLOCK_SIZE, MOST_LISTED + 1, sizeof vast, 0, BAD_COUNT);
     run_refused("65536, none", BLOCK_SIZE, MOST_LISTED + 1, 0, 1, BAD_COUNT);
     run_refused("65535, short", BLOCK_SIZE, MOST_LISTED, MOST_LENGTH - 1, 0, NO_ROOM);
     run_refused("no buffer", BLOCK_SIZE, 0, 0, 0, NO_ROOM);
-    run_refused("191 bytes", BLOCK_SIZE, 0, 191, 0, NO_ROOM);
-    run_refused("191 behind", BLOCK_SIZE, 0, 192, 1, NO_ROOM);
-    run_refused("391 behind", BLOCK_SIZE, 1, 500 + 391, 500, NO_ROOM);
+    run_refused("195 bytes", BLOCK_SIZE, 0, 195, 0, NO_ROOM);
+    run_refused("195 behind", BLOCK_SIZE, 0, 196, 1, NO_ROOM);
+    run_refused("399 behind", BLOCK_SIZE, 1, 500 + 399, 500, NO_ROOM);
     run_refused("at the end", BLOCK_SIZE, 0, ROOM, ROOM, NO_ROOM);
     run_refused("past the end", BLOCK_SIZE, 0, ROOM, ROOM + 1, NO_ROOM);
-    run_refused("sum wraps", BLOCK_SIZE, 0, ROOM, SIZE_MAX - 191, NO_ROOM);
+    run_refused("sum wraps", BLOCK_SIZE, 0, ROOM, SIZE_MAX - 195, NO_ROOM);
     run_refused("last offset", BLOCK_SIZE, 0, ROOM, SIZE_MAX, NO_ROOM);
 }
 
@@ -820,11 +925,11 @@ static void run_most(void)
          are_old(vast + 1 + MOST_LENGTH, sizeof vast - 1 - MOST_LENGTH));
 }
 
-/* No. 7: the shortest trace is l, of an empty list. */
+/* No. 7: the shortest trace, in the new layout, is of an empty list. */
 static void run_recordings(void)
 {
-    run_written("record, none", SHORTEST + START_BLOCK, NULL, 0, 0, sizeof SHORTEST, SHORTEST);
-    run_written("none, from 7", SHORTEST + START_BLOCK, NULL, 0, 7, ROOM - 7, SHORTEST);
+    run_written("record, none", SHORTEST_NEW + START_BLOCK, NULL, 0, 0, sizeof SHORTEST_NEW, SHORTEST_NEW);
+    run_written("none, from 7", SHORTEST_NEW + START_BLOCK, NULL, 0, 7, ROOM - 7, SHORTEST_NEW);
     run_written("record, one", ONE_STEP + START_BLOCK, &UNKNOWN, 1, 0, sizeof ONE_STEP, ONE_STEP);
     run_listed();
     run_refusals();
@@ -960,22 +1065,24 @@ static void run_caller(const struct caller *caller)
 }
 
 /* No. 8: "Old traces that show such a call taken are now WRONG_STEP": taken as with the disable bit the other way. */
-static void run_old_call(const struct worked_case *worked)
+static void run_old_call(const struct worked_case *worked, enum layout layout)
 {
     uint8_t trace[ONE_LENGTH];
 
-    record_turned(trace, worked, worked->code == CODE_SMC ? SCR_SCD : SCR_HCE);
-    run_trace("call taken", trace, sizeof trace, WRONG_STEP, START_LENGTH, 0);
-    record_turned(trace, worked, 0);
-    run_trace("call refused", trace, sizeof trace, DONE, sizeof trace, 1);
+    record_turned(trace, layout, worked, worked->code == CODE_SMC ? SCR_SCD : SCR_HCE);
+    run_one("call taken", trace, layout, WRONG_STEP);
+    record_turned(trace, layout, worked, 0);
+    run_one("call refused", trace, layout, DONE);
 }
 
 static void run_calls(void)
 {
     for (size_t i = 0; i < CALL_CASE_COUNT; i++) {
         run_case(&CALL_CASES[i]);
-        if (CALL_CASES[i].number == DISABLED)
-            run_old_call(&CALL_CASES[i]);
+        if (CALL_CASES[i].number != DISABLED)
+            continue;
+        run_old_call(&CALL_CASES[i], OLD_LAYOUT);
+        run_old_call(&CALL_CASES[i], NEW_LAYOUT);
     }
     for (size_t i = 0; i < sizeof CALLERS / sizeof CALLERS[0]; i++)
         run_caller(&CALLERS[i]);
@@ -1291,7 +1398,8 @@ static void run_taken_off(const char *name, uint32_t mode, uint32_t number, unsi
 
 static void run_return_refusals(void)
 {
-    run_return_sizes("block 175", BLOCK_SIZE - 1, ANSWER_SIZE);
+    run_return_sizes("block 176", OLD_BLOCK_SIZE, ANSWER_SIZE);
+    run_return_sizes("block 179", BLOCK_SIZE - 1, ANSWER_SIZE);
     run_return_sizes("answer 7", BLOCK_SIZE, ANSWER_SIZE - 1);
     run_refused_returns();
     run_taken_off("A, svc", MODE_SUPERVISOR, DONE, 4);
@@ -1581,27 +1689,515 @@ static void run_reacher(const struct reacher *reacher)
 }
 
 /* No. 10: "Old traces that show 7 where 17 now stands are WRONG_STEP", and no less those that show 17 where 7 stays. */
-static void run_denied_trace(const struct worked_case *worked)
+static void run_denied_trace(const struct worked_case *worked, enum layout layout)
 {
     const uint32_t other = worked->number == NO_RIGHT ? OWN_REGISTER : NO_RIGHT;
     uint8_t trace[ONE_LENGTH];
 
-    record_nothing(trace, worked);
-    put_word(trace + START_LENGTH + STEP_ANSWER, other);
-    run_trace(other == NO_RIGHT ? "7 for 17" : "17 for 7", trace, sizeof trace, WRONG_STEP, START_LENGTH, 0);
-    put_word(trace + START_LENGTH + STEP_ANSWER, worked->number);
-    run_trace(other == NO_RIGHT ? "17" : "7", trace, sizeof trace, DONE, sizeof trace, 1);
+    record_stayed(trace, layout, worked, other);
+    run_one(other == NO_RIGHT ? "7 for 17" : "17 for 7", trace, layout, WRONG_STEP);
+    record_stayed(trace, layout, worked, worked->number);
+    run_one(other == NO_RIGHT ? "17" : "7", trace, layout, DONE);
 }
 
 static void run_denials(void)
 {
     for (size_t i = 0; i < DENIED_CASE_COUNT; i++) {
         run_case(&DENIED_CASES[i]);
-        if (DENIED_CASES[i].number == NO_RIGHT || DENIED_CASES[i].number == OWN_REGISTER)
-            run_denied_trace(&DENIED_CASES[i]);
+        if (DENIED_CASES[i].number != NO_RIGHT && DENIED_CASES[i].number != OWN_REGISTER)
+            continue;
+        run_denied_trace(&DENIED_CASES[i], OLD_LAYOUT);
+        run_denied_trace(&DENIED_CASES[i], NEW_LAYOUT);
     }
     for (size_t i = 0; i < sizeof REACHERS / sizeof REACHERS[0]; i++)
         run_reacher(&REACHERS[i]);
+}
+
+/* No. 11: debug aborts by hand, and what stands beside them; the table below has every mode. */
+static const struct worked_case DEBUG_CASES[] = {
+    { .name = "svc, TDE 1", /* "goes to Hyp, at 0x14" */
+      .start = { [SCR] = SCR_NS, [HDCR] = HDCR_TDE, [CPSR] = 0x13, [PC] = 0x8000, [HVBAR] = 0x20000000 },
+      .code = CODE_PREFETCH_ABORT, .a = ABORT_DEBUG, .value = 0x1A14,
+      .after = { { CPSR, 0x1DA }, { SPSR_hyp, 0x13 }, { ELR_hyp, 0x8000 }, { PC, 0x20000014 } }, .named = 4 },
+    { .name = "User, TDE 1", /* with T 1: "Hyp writes ELR_hyp with nothing added" */
+      .start = { [SCR] = SCR_NS, [HDCR] = HDCR_TDE, [CPSR] = 0x30, [PC] = 0x8002 },
+      .code = CODE_PREFETCH_ABORT, .a = ABORT_DEBUG, .value = 0x1A14,
+      .after = { { CPSR, 0x1DA }, { SPSR_hyp, 0x30 }, { ELR_hyp, 0x8002 }, { HDCR, HDCR_TDE } }, .named = 4 },
+    { .name = "svc, TDE 0", /* "else as before": as with A 0 */
+      .start = { [SCR] = SCR_NS, [CPSR] = 0x13, [PC] = 0x8000, [VBAR_NS] = 0x10000000 },
+      .code = CODE_PREFETCH_ABORT, .a = ABORT_DEBUG, .value = 0x170C,
+      .after = { { CPSR, 0x197 }, { SPSR_abt, 0x13 }, { LR_abt, 0x8004 }, { PC, 0x1000000C } }, .named = 4 },
+    { .name = "all but TDE", /* the other bits of HDCR steer nothing */
+      .start = { [SCR] = SCR_NS, [HDCR] = 0xFFFFFEFF, [CPSR] = 0x13, [PC] = 0x8000, [VBAR_NS] = 0x10000000 },
+      .code = CODE_PREFETCH_ABORT, .a = ABORT_DEBUG, .value = 0x170C,
+      .after = { { CPSR, 0x197 }, { LR_abt, 0x8004 }, { PC, 0x1000000C }, { HDCR, 0xFFFFFEFF } }, .named = 4 },
+    { .name = "User, TGE 1", /* "else as before": to Hyp by TGE */
+      .start = { [SCR] = SCR_NS, [HCR] = HCR_TGE, [CPSR] = 0x10, [PC] = 0x8000 },
+      .code = CODE_PREFETCH_ABORT, .a = ABORT_DEBUG, .value = 0x1A14,
+      .after = { { CPSR, 0x1DA }, { ELR_hyp, 0x8000 } }, .named = 2 },
+    { .name = "Hyp, TDE 1", /* from Hyp itself at its own offset */
+      .start = { [SCR] = SCR_NS, [HDCR] = HDCR_TDE, [CPSR] = 0x1A, [PC] = 0x8000 },
+      .code = CODE_PREFETCH_ABORT, .a = ABORT_DEBUG, .value = 0x1A0C,
+      .after = { { CPSR, 0x1DA }, { ELR_hyp, 0x8000 } }, .named = 2 },
+    { .name = "Secure svc", /* neither "Non-secure User" nor "NS EL1" */
+      .start = { [HDCR] = HDCR_TDE, [CPSR] = 0x13, [PC] = 0x8000, [VBAR_S] = 0x40000000 },
+      .code = CODE_PREFETCH_ABORT, .a = ABORT_DEBUG, .value = 0x170C,
+      .after = { { CPSR, 0x197 }, { LR_abt, 0x8004 }, { PC, 0x4000000C } }, .named = 3 },
+    { .name = "Monitor, NS", /* Secure, whatever NS says */
+      .start = { [SCR] = SCR_NS, [HDCR] = HDCR_TDE, [CPSR] = 0x16, [PC] = 0x8000, [VBAR_S] = 0x40000000 },
+      .code = CODE_PREFETCH_ABORT, .a = ABORT_DEBUG, .value = 0x170C,
+      .after = { { SCR, 0 }, { LR_abt, 0x8004 }, { PC, 0x4000000C } }, .named = 3 },
+    { .name = "EA 1, TDE 1", /* not external: not to Monitor; Hyp leaves A as it is with EA 1 */
+      .start = { [SCR] = SCR_NS | SCR_EA, [HDCR] = HDCR_TDE, [CPSR] = 0x13, [PC] = 0x8000 },
+      .code = CODE_PREFETCH_ABORT, .a = ABORT_DEBUG, .value = 0x1A14,
+      .after = { { CPSR, 0xDA } }, .named = 1 },
+    { .name = "EA 1, TDE 0",
+      .start = { [SCR] = SCR_NS | SCR_EA, [CPSR] = 0x13, [PC] = 0x8000 },
+      .code = CODE_PREFETCH_ABORT, .a = ABORT_DEBUG, .value = 0x170C,
+      .after = { { CPSR, 0x197 } }, .named = 1 },
+    { .name = "A 0", /* no debug: TDE plays no part */
+      .start = { [SCR] = SCR_NS, [HDCR] = HDCR_TDE, [CPSR] = 0x13, [PC] = 0x8000 },
+      .code = CODE_PREFETCH_ABORT, .value = 0x170C,
+      .after = { { CPSR, 0x197 } }, .named = 1 },
+    { .name = "A 1",
+      .start = { [SCR] = SCR_NS, [HDCR] = HDCR_TDE, [CPSR] = 0x13, [PC] = 0x8000 },
+      .code = CODE_PREFETCH_ABORT, .a = ABORT_EXTERNAL, .value = 0x170C,
+      .after = { { CPSR, 0x197 } }, .named = 1 },
+    { .name = "code 6, A 0",
+      .start = { [SCR] = SCR_NS, [HDCR] = HDCR_TDE, [CPSR] = 0x13, [PC] = 0x8000 },
+      .code = CODE_DATA_ABORT, .value = 0x1710,
+      .after = { { CPSR, 0x197 } }, .named = 1 },
+    { .name = "A 5", /* "4 with 1 or 2 is BAD_EVENT" */
+      .start = { [SCR] = SCR_NS, [HDCR] = HDCR_TDE, [CPSR] = 0x13, [PC] = 0x8000 },
+      .code = CODE_PREFETCH_ABORT, .a = 5, .number = BAD_EVENT, .unchanged = true },
+    { .name = "A 6",
+      .start = { [SCR] = SCR_NS, [HDCR] = HDCR_TDE, [CPSR] = 0x13, [PC] = 0x8000 },
+      .code = CODE_PREFETCH_ABORT, .a = 6, .number = BAD_EVENT, .unchanged = true },
+    { .name = "A 7",
+      .start = { [SCR] = SCR_NS, [HDCR] = HDCR_TDE, [CPSR] = 0x13, [PC] = 0x8000 },
+      .code = CODE_PREFETCH_ABORT, .a = 7, .number = BAD_EVENT, .unchanged = true },
+    { .name = "A 8",
+      .start = { [SCR] = SCR_NS, [HDCR] = HDCR_TDE, [CPSR] = 0x13, [PC] = 0x8000 },
+      .code = CODE_PREFETCH_ABORT, .a = 8, .number = BAD_EVENT, .unchanged = true },
+    { .name = "A 4, B 1",
+      .start = { [SCR] = SCR_NS, [HDCR] = HDCR_TDE, [CPSR] = 0x13, [PC] = 0x8000 },
+      .code = CODE_PREFETCH_ABORT, .a = ABORT_DEBUG, .b = 1, .number = BAD_EVENT, .unchanged = true },
+    { .name = "code 6, A 4", /* "Prefetch Abort's A gains 4", and no other */
+      .start = { [SCR] = SCR_NS, [HDCR] = HDCR_TDE, [CPSR] = 0x13, [PC] = 0x8000 },
+      .code = CODE_DATA_ABORT, .a = 4, .number = BAD_EVENT, .unchanged = true },
+    { .name = "svc, TGE 1", /* not good: BAD_STATE */
+      .start = { [SCR] = SCR_NS, [HCR] = HCR_TGE, [HDCR] = HDCR_TDE, [CPSR] = 0x13, [PC] = 0x8000 },
+      .code = CODE_PREFETCH_ABORT, .a = ABORT_DEBUG, .number = BAD_STATE, .unchanged = true },
+    { .name = "note, place 44", /* "The block gains place 44": any word of it leaves a good block */
+      .start = { [SCR] = SCR_NS, [CPSR] = 0x13, [PC] = 0x8000 },
+      .code = CODE_NOTE, .a = 44, .b = UINT32_MAX,
+      .after = { { HDCR, UINT32_MAX }, { MVBAR, 0 }, { PC, 0x8000 } }, .named = 3 },
+    { .name = "note, B 0",
+      .start = { [SCR] = SCR_NS, [HDCR] = UINT32_MAX, [CPSR] = 0x13, [PC] = 0x8000 },
+      .code = CODE_NOTE, .a = 44,
+      .after = { { HDCR, 0 }, { MVBAR, 0 }, { PC, 0x8000 } }, .named = 3 },
+    { .name = "note, place 45",
+      .start = { [SCR] = SCR_NS, [CPSR] = 0x13, [PC] = 0x8000 },
+      .code = CODE_NOTE, .a = 45, .number = BAD_EVENT, .unchanged = true },
+};
+
+/* No. 11: how many by hand. */
+#define DEBUG_CASE_COUNT (sizeof DEBUG_CASES / sizeof DEBUG_CASES[0])
+
+/* No. 11: where a debug abort goes. */
+enum debug_outcome {
+    ABORT_0C = 0x170C,
+    OTHER_14 = 0x1A14, /* to Hyp, from another mode */
+    ITSELF_0C = 0x1A0C /* to Hyp, from Hyp */
+};
+
+/* No. 11: from every mode, Secure and Non-secure, by TDE. */
+static const struct debugged {
+    const char *name;
+    uint32_t mode, scr, hcr;
+    enum debug_outcome due[2];
+} DEBUGGED[] = {
+    { "User",          MODE_USER,       0,      0,       { ABORT_0C, ABORT_0C } },
+    { "User, TGE 1",   MODE_USER,       0,      HCR_TGE, { ABORT_0C, ABORT_0C } },
+    { "FIQ",           MODE_FIQ,        0,      0,       { ABORT_0C, ABORT_0C } },
+    { "IRQ",           MODE_IRQ,        0,      0,       { ABORT_0C, ABORT_0C } },
+    { "Supervisor",    MODE_SUPERVISOR, 0,      0,       { ABORT_0C, ABORT_0C } },
+    { "Monitor",       MODE_MONITOR,    0,      0,       { ABORT_0C, ABORT_0C } },
+    { "Abort",         MODE_ABORT,      0,      0,       { ABORT_0C, ABORT_0C } },
+    { "Undefined",     MODE_UNDEFINED,  0,      0,       { ABORT_0C, ABORT_0C } },
+    { "System",        MODE_SYSTEM,     0,      0,       { ABORT_0C, ABORT_0C } },
+    { "NS User",       MODE_USER,       SCR_NS, 0,       { ABORT_0C, OTHER_14 } },
+    { "NS User, TGE",  MODE_USER,       SCR_NS, HCR_TGE, { OTHER_14, OTHER_14 } },
+    { "NS FIQ",        MODE_FIQ,        SCR_NS, 0,       { ABORT_0C, OTHER_14 } },
+    { "NS IRQ",        MODE_IRQ,        SCR_NS, 0,       { ABORT_0C, OTHER_14 } },
+    { "NS Supervisor", MODE_SUPERVISOR, SCR_NS, 0,       { ABORT_0C, OTHER_14 } },
+    { "NS Monitor",    MODE_MONITOR,    SCR_NS, 0,       { ABORT_0C, ABORT_0C } },
+    { "NS Abort",      MODE_ABORT,      SCR_NS, 0,       { ABORT_0C, OTHER_14 } },
+    { "Hyp",           MODE_HYP,        SCR_NS, 0,       { ITSELF_0C, ITSELF_0C } },
+    { "NS Undefined",  MODE_UNDEFINED,  SCR_NS, 0,       { ABORT_0C, OTHER_14 } },
+    { "NS System",     MODE_SYSTEM,     SCR_NS, 0,       { ABORT_0C, OTHER_14 } },
+};
+
+/* No. 11: the block of a mode, with a word in each other place. */
+static void put_debugged(uint8_t *block, const struct debugged *debugged, uint32_t hdcr)
+{
+    for (uint32_t place = 0; place < PLACES; place++)
+        put_word(block + 4 * place, 0x1000 * place);
+    put_word(block + 4 * CPSR, debugged->mode);
+    put_word(block + 4 * SCR, debugged->scr);
+    put_word(block + 4 * HCR, debugged->hcr);
+    put_word(block + 4 * HDCR, hdcr);
+}
+
+/* No. 11: whether a debug abort goes where it is due; "else as before" is, in every byte, as with A 0. */
+static bool is_routed(const struct debugged *debugged, uint32_t tde)
+{
+    const bool as_before = debugged->due[tde] == debugged->due[0];
+    uint8_t block[BLOCK_SIZE], with_a_0[BLOCK_SIZE];
+    struct pomurica_answer answer;
+
+    put_debugged(block, debugged, tde * HDCR_TDE);
+    put_debugged(with_a_0, debugged, tde * HDCR_TDE);
+    answer = answer_of(block, (struct pomurica_event){ CODE_PREFETCH_ABORT, ABORT_DEBUG, 0 });
+    answer_of(with_a_0, (struct pomurica_event){ CODE_PREFETCH_ABORT, 0, 0 });
+    return answer.number == DONE && answer.value == (uint32_t)debugged->due[tde] &&
+           as_before == (memcmp(block, with_a_0, sizeof block) == 0);
+}
+
+/* No. 11: whether an event comes to the same with every bit of HDCR 0 and 1, and leaves them. */
+static bool is_blind(const struct debugged *debugged, struct pomurica_event event)
+{
+    uint8_t block[BLOCK_SIZE], other[BLOCK_SIZE];
+    struct pomurica_answer answer, of_other;
+
+    put_debugged(block, debugged, 0);
+    put_debugged(other, debugged, UINT32_MAX);
+    answer = answer_of(block, event);
+    of_other = answer_of(other, event);
+    return memcmp(&answer, &of_other, sizeof answer) == 0 && memcmp(block, other, OLD_BLOCK_SIZE) == 0 &&
+           get_word(block + 4 * HDCR) == 0 && get_word(other + 4 * HDCR) == UINT32_MAX;
+}
+
+/* No. 11: all events but debug and a note on place 44: each code with each A from 0 to 63. */
+static void run_debugged(const struct debugged *debugged)
+{
+    unsigned routed = 0, blind = 0;
+
+    routed += is_routed(debugged, 0);
+    routed += is_routed(debugged, 1);
+    for (uint32_t code = 0; code <= CODES; code++) {
+        for (uint32_t a = 0; a < 64; a++) {
+            const bool named = (code == CODE_PREFETCH_ABORT && a == ABORT_DEBUG) || (code == CODE_NOTE && a == HDCR);
+
+            blind += !named && is_blind(debugged, (struct pomurica_event){ code, a, 0 });
+        }
+    }
+    printf("%-13s %u as due, %u others", debugged->name, routed, blind);
+    tell(routed == 2 && blind == (CODES + 1) * 64 - 2);
+}
+
+/* No. 11: "176 is now BAD_SIZE", as any size but 180: neither buffer changes. */
+static void run_block_size(size_t block_len)
+{
+    uint8_t before[BLOCK_SIZE + 1] = { 0 }, block[BLOCK_SIZE + 1], answer[ANSWER_SIZE];
+    uint32_t number;
+
+    put_first_block(before, MODE_SUPERVISOR);
+    memcpy(block, before, sizeof block);
+    memset(answer, OLD_BYTE, sizeof answer);
+    number = second_step(block, block_len, CODE_SVC, 0, 0, answer, sizeof answer);
+    printf("%-12s  number %u, of %u bytes", "block", (unsigned)number, (unsigned)block_len);
+    tell(number == BAD_SIZE && memcmp(block, before, sizeof block) == 0 && are_old(answer, sizeof answer));
+}
+
+/* No. 11: what a Step may show, with a block that stays: in an old one "debug and notes on place 44 are BAD_EVENT". */
+static const struct shown {
+    struct worked_case step;
+    uint32_t due[LAYOUTS];
+} SHOWN[] = {
+    { { .name = "debug, 4", .start = { [SCR] = SCR_NS, [CPSR] = 0x13 },
+        .code = CODE_PREFETCH_ABORT, .a = ABORT_DEBUG, .number = BAD_EVENT },
+      { [OLD_LAYOUT] = DONE, [NEW_LAYOUT] = WRONG_STEP } },
+    { { .name = "TDE 1, 4", .start = { [SCR] = SCR_NS, [CPSR] = 0x13, [HDCR] = HDCR_TDE },
+        .code = CODE_PREFETCH_ABORT, .a = ABORT_DEBUG, .number = BAD_EVENT },
+      { [OLD_LAYOUT] = DONE, [NEW_LAYOUT] = WRONG_STEP } },
+    { { .name = "Hyp, 4", .start = { [SCR] = SCR_NS, [CPSR] = 0x1A },
+        .code = CODE_PREFETCH_ABORT, .a = ABORT_DEBUG, .number = BAD_EVENT },
+      { [OLD_LAYOUT] = DONE, [NEW_LAYOUT] = WRONG_STEP } },
+    { { .name = "note 44, 4", .start = { [SCR] = SCR_NS, [CPSR] = 0x13 },
+        .code = CODE_NOTE, .a = 44, .number = BAD_EVENT },
+      { [OLD_LAYOUT] = DONE, [NEW_LAYOUT] = WRONG_STEP } },
+    { { .name = "note 44, B 1", .start = { [SCR] = SCR_NS, [CPSR] = 0x13 },
+        .code = CODE_NOTE, .a = 44, .b = 1, .number = BAD_EVENT },
+      { [OLD_LAYOUT] = DONE, [NEW_LAYOUT] = WRONG_STEP } },
+    { { .name = "note 44, 0", .start = { [SCR] = SCR_NS, [CPSR] = 0x13 },
+        .code = CODE_NOTE, .a = 44, .number = DONE },
+      { [OLD_LAYOUT] = WRONG_STEP, [NEW_LAYOUT] = DONE } },
+    { { .name = "note 43, 0", .start = { [SCR] = SCR_NS, [CPSR] = 0x13 },
+        .code = CODE_NOTE, .a = 43, .number = DONE },
+      { [OLD_LAYOUT] = DONE, [NEW_LAYOUT] = DONE } },
+    { { .name = "note 45, 4", .start = { [SCR] = SCR_NS, [CPSR] = 0x13 },
+        .code = CODE_NOTE, .a = 45, .number = BAD_EVENT },
+      { [OLD_LAYOUT] = DONE, [NEW_LAYOUT] = DONE } },
+    { { .name = "read 44, 6", .start = { [SCR] = SCR_NS, [CPSR] = 0x13 }, /* A of an access is no place */
+        .code = CODE_BANKED_READ, .a = 44, .number = NO_REGISTER },
+      { [OLD_LAYOUT] = DONE, [NEW_LAYOUT] = DONE } },
+    { { .name = "A 5, 4", .start = { [SCR] = SCR_NS, [CPSR] = 0x13 },
+        .code = CODE_PREFETCH_ABORT, .a = 5, .number = BAD_EVENT },
+      { [OLD_LAYOUT] = DONE, [NEW_LAYOUT] = DONE } },
+    { { .name = "return 44, 3", .start = { [SCR] = SCR_NS, [CPSR] = 0x13, [SPSR_svc] = 1 << 21 | 0x10 }, /* nor here */
+        .code = CODE_RETURN, .a = 44, .number = BAD_STATE },
+      { [OLD_LAYOUT] = DONE, [NEW_LAYOUT] = DONE } },
+    { { .name = "code 6, 4", .start = { [SCR] = SCR_NS, [CPSR] = 0x13 },
+        .code = CODE_DATA_ABORT, .a = 4, .number = BAD_EVENT },
+      { [OLD_LAYOUT] = DONE, [NEW_LAYOUT] = DONE } },
+    /* The block's own numbers are the lower. */
+    { { .name = "no mode, 2", .start = { [SCR] = SCR_NS, [CPSR] = 0x14 },
+        .code = CODE_PREFETCH_ABORT, .a = ABORT_DEBUG, .number = BAD_MODE },
+      { [OLD_LAYOUT] = DONE, [NEW_LAYOUT] = DONE } },
+    { { .name = "no mode, 4", .start = { [SCR] = SCR_NS, [CPSR] = 0x14 },
+        .code = CODE_NOTE, .a = 44, .number = BAD_EVENT },
+      { [OLD_LAYOUT] = WRONG_STEP, [NEW_LAYOUT] = WRONG_STEP } },
+    { { .name = "not good, 3", .start = { [CPSR] = 0x1A },
+        .code = CODE_NOTE, .a = 44, .number = BAD_STATE },
+      { [OLD_LAYOUT] = DONE, [NEW_LAYOUT] = DONE } },
+};
+
+static void run_shown(const struct shown *shown, enum layout layout)
+{
+    uint8_t trace[ONE_LENGTH];
+
+    record_stayed(trace, layout, &shown->step, shown->step.number);
+    run_one(shown->step.name, trace, layout, shown->due[layout]);
+}
+
+/* No. 11: a case as a direct step does it: right in a new trace, with that HDCR alone; in an old one without debug. */
+static void run_debug_trace(const struct worked_case *worked)
+{
+    const bool is_old = worked->code != CODE_NOTE && worked->a != ABORT_DEBUG;
+    uint8_t trace[ONE_LENGTH];
+
+    record_turned(trace, OLD_LAYOUT, worked, 0);
+    run_one("as an old one", trace, OLD_LAYOUT, is_old ? DONE : WRONG_STEP);
+    record_turned(trace, NEW_LAYOUT, worked, 0);
+    run_one("as a new one", trace, NEW_LAYOUT, DONE);
+    trace[place_of(NEW_LAYOUT, 1) - 3] ^= HDCR_TDE >> 8;
+    run_one("HDCR turned", trace, NEW_LAYOUT, WRONG_STEP);
+}
+
+static void run_debug_cases(void)
+{
+    for (size_t i = 0; i < DEBUG_CASE_COUNT; i++) {
+        run_case(&DEBUG_CASES[i]);
+        if (DEBUG_CASES[i].number == DONE)
+            run_debug_trace(&DEBUG_CASES[i]);
+    }
+}
+
+/* No. 11: a trace of two refused Steps from a block without a known mode, each record in a layout of its own. */
+static size_t record_mixed(uint8_t *trace, enum layout start, enum layout first, enum layout second)
+{
+    const struct pomurica_answer answer = { BAD_MODE, 0 };
+    const uint8_t block[BLOCK_SIZE] = { 0 };
+    uint8_t *record = trace;
+
+    put_start(record, start, 2, block);
+    record += LAYOUT[start].start;
+    put_step(record, first, UNKNOWN, answer, block);
+    record += LAYOUT[first].step;
+    put_step(record, second, UNKNOWN, answer, block);
+    record += LAYOUT[second].step;
+    put_end(record, 2);
+    return (size_t)(record + END_LENGTH - trace);
+}
+
+enum {
+    TWO_LENGTH = START_LENGTH + 2 * STEP_LENGTH + END_LENGTH
+};
+
+/* No. 11: "A trace that mixes the two is BAD_RECORD", at the record not due; No. 6: known with its fourth byte. */
+static void run_mixed(enum layout layout, enum layout other)
+{
+    const uint32_t first = place_of(layout, 0), second = place_of(layout, 1), whole = length_of(layout, 2);
+    uint8_t trace[TWO_LENGTH];
+    size_t length;
+
+    length = record_mixed(trace, layout, layout, layout);
+    run_trace("not mixed", trace, length, DONE, whole, 2);
+    run_known("not mixed", trace, length, length, DONE, whole, 2);
+    length = record_mixed(trace, layout, other, other);
+    run_trace("Start alone", trace, length, BAD_RECORD, first, 0);
+    run_known("Start alone", trace, length, first + 3, BAD_RECORD, first, 0);
+    length = record_mixed(trace, layout, other, layout);
+    run_trace("first Step", trace, length, BAD_RECORD, first, 0);
+    run_known("first Step", trace, length, first + 3, BAD_RECORD, first, 0);
+    length = record_mixed(trace, layout, layout, other);
+    run_trace("last Step", trace, length, BAD_RECORD, second, 1);
+    run_known("last Step", trace, length, second + 3, BAD_RECORD, second, 1);
+}
+
+/* No. 11: whether the trace is BAD_RECORD at this place, and a session knows it with the fourth byte there. */
+static bool is_bad_record(const uint8_t *trace, size_t length, uint32_t place)
+{
+    const uint32_t before = place + HEADER_SIZE - 1;
+    struct pomurica_session session;
+    uint8_t report[REPORT_SIZE];
+    bool known;
+
+    second_open(&session);
+    known = second_feed(&session, trace, before) == DONE && second_feed(&session, trace + before, 1) == BAD_RECORD;
+    second_check(trace, length, report, sizeof report);
+    return known && get_word(report) == BAD_RECORD && get_word(report + 4) == place;
+}
+
+/* No. 11: "length or kind not the one due" is BAD_RECORD: each length with each kind, and two beside, but those due. */
+static void run_headers(const char *name, enum layout layout, uint32_t place, const uint32_t due[2])
+{
+    static const uint32_t LENGTHS[] = { 184, 188, 200, 204, 8 };
+    uint8_t trace[TWO_LENGTH];
+    unsigned bad = 0;
+
+    for (uint32_t i = 0; i < 5; i++) {
+        for (uint32_t kind = 0; kind < 7; kind++) {
+            const size_t length = record_mixed(trace, layout, layout, layout);
+            const uint32_t header = LENGTHS[i] | kind << 16;
+
+            put_word(trace + place, header);
+            bad += is_bad_record(trace, length, place) == (header != due[0] && header != due[1]);
+        }
+    }
+    printf("%-12s  %u headers as due", name, bad);
+    tell(bad == 35);
+}
+
+/* No. 11: a Start may be of either layout, a Step of the Start's; the End is in both the same. */
+static void run_all_headers(void)
+{
+    static const uint32_t STARTS[2] = { 184 | 1 << 16, 188 | 4 << 16 };
+    static const uint32_t OLD_STEP[2] = { 200 | 2 << 16, 200 | 2 << 16 };
+    static const uint32_t NEW_STEP[2] = { 204 | 5 << 16, 204 | 5 << 16 };
+    static const uint32_t ENDS[2] = { 8 | 3 << 16, 8 | 3 << 16 };
+
+    run_headers("old Start", OLD_LAYOUT, 0, STARTS);
+    run_headers("new Start", NEW_LAYOUT, 0, STARTS);
+    run_headers("old Step", OLD_LAYOUT, place_of(OLD_LAYOUT, 1), OLD_STEP);
+    run_headers("new Step", NEW_LAYOUT, place_of(NEW_LAYOUT, 1), NEW_STEP);
+    run_headers("old End", OLD_LAYOUT, place_of(OLD_LAYOUT, 2), ENDS);
+    run_headers("new End", NEW_LAYOUT, place_of(NEW_LAYOUT, 2), ENDS);
+}
+
+/* No. 11: a list that begins in Non-secure Supervisor, with TDE 0. */
+static const struct pomurica_event DEBUGGING[] = {
+    { CODE_PREFETCH_ABORT, ABORT_DEBUG, 0 },
+    { CODE_NOTE, HDCR, HDCR_TDE },
+    { CODE_PREFETCH_ABORT, ABORT_DEBUG, 0 },
+    { CODE_PREFETCH_ABORT, ABORT_DEBUG | ABORT_EXTERNAL, 0 },
+    { CODE_PREFETCH_ABORT, ABORT_DEBUG, 0 },
+    { CODE_NOTE, PLACES, 0 },
+};
+
+enum {
+    DEBUGGING_STEPS = sizeof DEBUGGING / sizeof DEBUGGING[0],
+    DEBUGGING_LENGTH = START_LENGTH + DEBUGGING_STEPS * STEP_LENGTH + END_LENGTH
+};
+
+static const struct pomurica_answer DEBUGGING_ANSWERS[DEBUGGING_STEPS] = {
+    { DONE, 0x170C }, /* enters Abort mode */
+    { DONE, 0 },
+    { DONE, 0x1A14 }, /* enters Hyp mode */
+    { BAD_EVENT, 0 },
+    { DONE, 0x1A0C }, /* from Hyp */
+    { BAD_EVENT, 0 },
+};
+
+/* No. 11, No. 1: what they are counted as; in an old trace none of them is done. */
+static const char DEBUGGING_COUNTS[] = "1 5 4\n1 12 2\n2 0 4\n2 4 2\n3 23 1\n3 26 2\n";
+static const char REFUSED_COUNTS[] = "1 5 4\n1 12 2\n2 4 6\n";
+
+/* No. 11, No. 2. */
+static void run_debugging_batch(void)
+{
+    struct pomurica_answer answers[DEBUGGING_STEPS];
+    uint8_t block[BLOCK_SIZE];
+    uint32_t number;
+
+    put_first_block(block, MODE_SUPERVISOR);
+    number = second_batch(DEBUGGING, DEBUGGING_STEPS, answers, DEBUGGING_STEPS, block, sizeof block);
+    printf("%-12s  number %u, HDCR 0x%X", "batch", (unsigned)number, (unsigned)get_word(block + 4 * HDCR));
+    tell(number == DONE && memcmp(answers, DEBUGGING_ANSWERS, sizeof answers) == 0 &&
+         get_word(block + 4 * HDCR) == HDCR_TDE);
+}
+
+/* No. 11, No. 7: whether the list as recorded has new records, these answers, and HDCR from the note on. */
+static bool shows_debugging(const uint8_t *trace)
+{
+    bool right = get_word(trace) == (188 | 4 << 16) && get_word(trace + 188 - 4) == 0;
+
+    for (uint32_t i = 0; i < DEBUGGING_STEPS; i++) {
+        const uint8_t *step = trace + 188 + 204 * i;
+
+        right = right && get_word(step) == (204 | 5 << 16) && get_word(step + 204 - 4) == (i == 0 ? 0 : HDCR_TDE) &&
+                get_word(step + STEP_ANSWER) == DEBUGGING_ANSWERS[i].number &&
+                get_word(step + STEP_VALUE) == DEBUGGING_ANSWERS[i].value;
+    }
+    return right && get_word(trace + 188 + 204 * DEBUGGING_STEPS) == (8 | 3 << 16);
+}
+
+/* No. 11, No. 7, No. 6, No. 1: the list recorded, checked at once and as it arrives, and counted. */
+static void run_debugging_trace(void)
+{
+    uint8_t block[BLOCK_SIZE], trace[DEBUGGING_LENGTH], counts[COUNTS_SIZE] = { 0 };
+    uint32_t number;
+
+    put_first_block(block, MODE_SUPERVISOR);
+    number = second_record(block, sizeof block, DEBUGGING, DEBUGGING_STEPS, trace, sizeof trace, 0);
+    printf("%-12s  number %u, %u bytes", "record", (unsigned)number, (unsigned)sizeof trace);
+    tell(number == DONE && shows_debugging(trace));
+    run_trace("trace", trace, sizeof trace, DONE, DEBUGGING_LENGTH, DEBUGGING_STEPS);
+    run_known("session", trace, sizeof trace, sizeof trace, DONE, DEBUGGING_LENGTH, DEBUGGING_STEPS);
+    run_count("counts", trace, sizeof trace, counts, DONE);
+    run_lines("counts", counts, DEBUGGING_COUNTS);
+}
+
+/* No. 11: the same list in an old trace: each of its events is BAD_EVENT there. */
+static void run_old_debugging(void)
+{
+    const struct pomurica_answer refused = { BAD_EVENT, 0 };
+    const uint32_t length = length_of(OLD_LAYOUT, DEBUGGING_STEPS);
+    uint8_t block[BLOCK_SIZE], trace[DEBUGGING_LENGTH], counts[COUNTS_SIZE] = { 0 };
+
+    put_first_block(block, MODE_SUPERVISOR);
+    put_start(trace, OLD_LAYOUT, DEBUGGING_STEPS, block);
+    for (uint32_t i = 0; i < DEBUGGING_STEPS; i++)
+        put_step(trace + place_of(OLD_LAYOUT, i), OLD_LAYOUT, DEBUGGING[i], refused, block);
+    put_end(trace + place_of(OLD_LAYOUT, DEBUGGING_STEPS), DEBUGGING_STEPS);
+    run_trace("old trace", trace, length, DONE, length, DEBUGGING_STEPS);
+    run_known("old session", trace, length, length, DONE, length, DEBUGGING_STEPS);
+    run_count("old counts", trace, length, counts, DONE);
+    run_lines("old counts", counts, REFUSED_COUNTS);
+}
+
+static void run_layouts(void)
+{
+    static const size_t SIZES[] = {
+        0, OLD_BLOCK_SIZE - 1, OLD_BLOCK_SIZE, OLD_BLOCK_SIZE + 1, BLOCK_SIZE - 1, BLOCK_SIZE + 1
+    };
+
+    run_debug_cases();
+    for (size_t i = 0; i < sizeof DEBUGGED / sizeof DEBUGGED[0]; i++)
+        run_debugged(&DEBUGGED[i]);
+    for (size_t i = 0; i < sizeof SIZES / sizeof SIZES[0]; i++)
+        run_block_size(SIZES[i]);
+    for (size_t i = 0; i < sizeof SHOWN / sizeof SHOWN[0]; i++) {
+        run_shown(&SHOWN[i], OLD_LAYOUT);
+        run_shown(&SHOWN[i], NEW_LAYOUT);
+    }
+    run_mixed(OLD_LAYOUT, NEW_LAYOUT);
+    run_mixed(NEW_LAYOUT, OLD_LAYOUT);
+    run_all_headers();
+    run_debugging_batch();
+    run_debugging_trace();
+    run_old_debugging();
 }
 
 int main(void)
@@ -1609,14 +2205,20 @@ int main(void)
     for (size_t i = 0; i < CASE_COUNT; i++)
         run_case(&CASES[i]);
     run_l();
-    run_counts();
+    run_counts(OLD_LAYOUT);
+    run_counts(NEW_LAYOUT);
     run_batches();
     run_tge();
-    run_sessions();
+    run_cuts(SHORTEST, sizeof SHORTEST);
+    run_cuts(SHORTEST_NEW, sizeof SHORTEST_NEW);
+    run_sessions(OLD_LAYOUT);
+    run_sessions(NEW_LAYOUT);
+    run_report_sizes();
     run_recordings();
     run_calls();
     run_returns();
     run_denials();
+    run_layouts();
     printf("%u passed, %u failed\n", run - differing, differing);
     return differing == 0 ? 0 : 1;
 }

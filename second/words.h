@@ -1,14 +1,14 @@
 /*
  * The words of document 01: its names for places, modes, events, numbers, bits
  * and the parts of a record, and how a word lies in bytes.  No. 1, No. 6, No. 7,
- * No. 8, No. 9 and No. 10 are those of document 02.
+ * No. 8, No. 9, No. 10 and No. 11 are those of document 02.
  */
 #ifndef WORDS_H
 #define WORDS_H
 
 #include <stdint.h>
 
-/* The state block: the place of each word. */
+/* The state block: the place of each word; No. 11: "The block gains place 44, HDCR", which the old layout has not. */
 enum place {
     R8_usr = 0, R9_usr, R10_usr, R11_usr, R12_usr, SP_usr, LR_usr,
     R8_fiq = 7, R9_fiq, R10_fiq, R11_fiq, R12_fiq, SP_fiq, LR_fiq,
@@ -19,7 +19,9 @@ enum place {
     SCR = 35, HCR,
     SCTLR_S = 37, SCTLR_NS, HSCTLR,
     VBAR_S = 40, VBAR_NS, HVBAR, MVBAR,
-    PLACES = 44
+    HDCR = 44,
+    PLACES = 45,
+    OLD_PLACES = 44
 };
 
 /* The state block: the nine mode numbers. */
@@ -79,6 +81,11 @@ enum sctlr_bits {
     SCTLR_TE = 1 << 30
 };
 
+/* No. 11: "HDCR.TDE (bit 8)". */
+enum hdcr_bits {
+    HDCR_TDE = 1 << 8
+};
+
 /* Events: the codes; No. 9: "Event 13, exception return". */
 enum code {
     CODE_UNDEFINED = 1,
@@ -97,10 +104,11 @@ enum code {
     CODES = 14
 };
 
-/* Events: A of an abort. */
+/* Events: A of an abort; No. 11: "Prefetch Abort's A gains 4, debug". */
 enum abort_bits {
     ABORT_EXTERNAL = 1,
-    ABORT_STAGE_2 = 2
+    ABORT_STAGE_2 = 2,
+    ABORT_DEBUG = 4
 };
 
 /* Events: A of an interrupt check. */
@@ -137,16 +145,24 @@ enum number {
     OWN_REGISTER = 17
 };
 
-/* The state block, Answer numbers, The trace, No. 1: sizes in bytes. */
+/* The state block, Answer numbers, The trace, No. 1: sizes in bytes; No. 11: the block "has 180 bytes". */
 enum size {
     BLOCK_SIZE = 4 * PLACES,
+    OLD_BLOCK_SIZE = 4 * OLD_PLACES, /* in the old layout */
     ANSWER_SIZE = 8,
     REPORT_SIZE = 12,
     COUNTS_SIZE = 512,
     LINES_SIZE = 2048 /* enough for the lines of any counts */
 };
 
-/* The trace: where the parts of a record begin, from its first byte. */
+/* No. 11: "in the old layout or the new". */
+enum layout {
+    OLD_LAYOUT,
+    NEW_LAYOUT,
+    LAYOUTS
+};
+
+/* The trace: where the parts of a record begin, from its first byte; in both layouts a block is the last. */
 enum part {
     HEADER_SIZE = 4,
     START_COUNT = 4,
@@ -160,11 +176,12 @@ enum part {
     END_COUNT = 4
 };
 
-/* No. 6: how far the records of a session have come. */
+/* No. 6: how far the records of a session have come; No. 11: behind the Start also in which layout. */
 enum stage {
-    STAGE_START = 0, /* the Start is due */
-    STAGE_NEXT = 1,  /* a Step is due, or the End */
-    STAGE_OVER = 2   /* nothing is due */
+    STAGE_START = 0,    /* the Start is due */
+    STAGE_OLD_NEXT = 1, /* a Step is due, or the End, in the old layout */
+    STAGE_NEXT = 2,     /* the same in the new one */
+    STAGE_OVER = 3      /* nothing is due */
 };
 
 /* The trace: two bytes, little-endian. */

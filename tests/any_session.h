@@ -16,7 +16,7 @@
 size_t any_arriving(struct chance *chance, enum damage damage, uint8_t *trace);
 
 /* How far a run reaches that begins at this byte: nowhere, a few bytes on, to about where a record begins, or to the end. */
-size_t any_cut(struct chance *chance, size_t at, size_t length);
+size_t any_cut(struct chance *chance, const uint8_t *trace, size_t at, size_t length);
 
 /* A session that has been fed the first so many bytes, at most all; gives how many. */
 size_t any_session(struct chance *chance, const uint8_t *trace, size_t length, struct pomurica_session *session);

@@ -1,8 +1,8 @@
 /*
  * The step of the archive, called from C: document 01's worked cases a to k,
  * calls that the disable bits stop (No. 8), returns, legal, illegal and refused
- * (No. 9), and entries that a return takes back, every length of both buffers
- * from 0 to 200, and guard bytes around both.
+ * (No. 9), and entries that a return takes back, debug aborts by HDCR (No. 11),
+ * every length of both buffers from 0 to 210, and guard bytes around both.
  */
 #include "group.h"
 #include "lent.h"
@@ -18,6 +18,7 @@ enum {
     SCR = POMURICA_PLACE_SCR,
     HCR = POMURICA_PLACE_HCR,
     VBAR_NS = POMURICA_PLACE_VBAR_NS,
+    HDCR = POMURICA_PLACE_HDCR,
     R8_USR = POMURICA_PLACE_R8_USR,
     SP_USR = POMURICA_PLACE_SP_USR,
     LR_IRQ = POMURICA_PLACE_LR_IRQ,
@@ -34,12 +35,13 @@ enum {
     UNDEFINED = POMURICA_EVENT_UNDEFINED,
     PREFETCH_ABORT = POMURICA_EVENT_PREFETCH_ABORT,
     DATA_ABORT = POMURICA_EVENT_DATA_ABORT,
+    NOTE = POMURICA_EVENT_NOTE,
     RETURN = POMURICA_EVENT_RETURN
 };
 
 /* The words that decide a worked case; the others are 0 but PC, 0x8000 unless named. */
 struct start {
-    uint32_t scr, hcr, cpsr, pc, vbar_ns;
+    uint32_t scr, hcr, cpsr, pc, vbar_ns, hdcr;
 };
 
 struct named_word {
@@ -137,6 +139,64 @@ static const struct refused_call REFUSED_CALLS[] = {
     { "HVC from Monitor, NS 1", HVC, 0, NS, 0, 0x16, POMURICA_NOT_HERE },
     { "HVC from Monitor, NS 1, HCE", HVC, 0, NS | HCE, 0, 0x16, POMURICA_NOT_HERE },
     { "HVC with A 1", HVC, 1, NS, 0, 0x13, POMURICA_BAD_EVENT },
+};
+
+#define EA POMURICA_SCR_EA
+#define TDE POMURICA_HDCR_TDE
+#define DEBUG POMURICA_ABORT_DEBUG
+
+/* No. 11: debug aborts.  From Non-secure User and EL1 TDE leads them to Hyp; else they are as with A 0. */
+static const struct worked_case DEBUGS[] = {
+    { "NS User, TDE", { .scr = NS, .hdcr = TDE, .cpsr = 0x10, .pc = PC_HERE }, PREFETCH_ABORT, DEBUG,
+      POMURICA_DONE, 0x1A14, { { CPSR, 0x1DA }, { ELR_HYP, 0x8000 }, { PC, 0x14 } }, 3 },
+    { "NS User", { .scr = NS, .hdcr = ~TDE, .cpsr = 0x10, .pc = PC_HERE }, PREFETCH_ABORT, DEBUG,
+      POMURICA_DONE, 0x170C, { { CPSR, 0x197 }, { LR_ABT, 0x8004 }, { PC, 0x0C } }, 3 },
+    { "NS User, TDE, TGE", { .scr = NS, .hcr = TGE, .hdcr = TDE, .cpsr = 0x10, .pc = PC_HERE }, PREFETCH_ABORT, DEBUG,
+      POMURICA_DONE, 0x1A14, { { CPSR, 0x1DA }, { ELR_HYP, 0x8000 }, { PC, 0x14 } }, 3 },
+    { "NS User, TGE", { .scr = NS, .hcr = TGE, .cpsr = 0x10, .pc = PC_HERE }, PREFETCH_ABORT, DEBUG,
+      POMURICA_DONE, 0x1A14, { { CPSR, 0x1DA }, { ELR_HYP, 0x8000 }, { PC, 0x14 } }, 3 },
+    { "NS User, TDE, T 1", { .scr = NS, .hdcr = TDE, .cpsr = 0x30, .pc = 0x8002 }, PREFETCH_ABORT, DEBUG,
+      POMURICA_DONE, 0x1A14, { { CPSR, 0x1DA }, { ELR_HYP, 0x8002 }, { PC, 0x14 } }, 3 },
+    { "NS Supervisor, TDE", { .scr = NS, .hdcr = TDE, .cpsr = 0x13, .pc = PC_HERE }, PREFETCH_ABORT, DEBUG,
+      POMURICA_DONE, 0x1A14, { { CPSR, 0x1DA }, { ELR_HYP, 0x8000 }, { PC, 0x14 } }, 3 },
+    { "NS System, TDE", { .scr = NS, .hdcr = TDE, .cpsr = 0x1F, .pc = PC_HERE }, PREFETCH_ABORT, DEBUG,
+      POMURICA_DONE, 0x1A14, { { CPSR, 0x1DA }, { ELR_HYP, 0x8000 }, { PC, 0x14 } }, 3 },
+    { "NS Abort, TDE", { .scr = NS, .hdcr = TDE, .cpsr = 0x17, .pc = PC_HERE }, PREFETCH_ABORT, DEBUG,
+      POMURICA_DONE, 0x1A14, { { CPSR, 0x1DA }, { LR_ABT, 0 }, { PC, 0x14 } }, 3 },
+    { "NS Abort", { .scr = NS, .cpsr = 0x17, .pc = PC_HERE }, PREFETCH_ABORT, DEBUG,
+      POMURICA_DONE, 0x170C, { { CPSR, 0x197 }, { LR_ABT, 0x8004 }, { PC, 0x0C } }, 3 },
+    { "NS User, EA, TDE", { .scr = NS | EA, .hdcr = TDE, .cpsr = 0x10, .pc = PC_HERE }, PREFETCH_ABORT, DEBUG,
+      POMURICA_DONE, 0x1A14, { { CPSR, 0xDA }, { ELR_HYP, 0x8000 }, { PC, 0x14 } }, 3 },
+    { "NS User, EA", { .scr = NS | EA, .cpsr = 0x10, .pc = PC_HERE }, PREFETCH_ABORT, DEBUG,
+      POMURICA_DONE, 0x170C, { { CPSR, 0x197 }, { LR_ABT, 0x8004 }, { PC, 0x0C } }, 3 },
+    { "Secure User, TDE", { .hdcr = TDE, .cpsr = 0x10, .pc = PC_HERE }, PREFETCH_ABORT, DEBUG,
+      POMURICA_DONE, 0x170C, { { CPSR, 0x197 }, { LR_ABT, 0x8004 }, { PC, 0x0C } }, 3 },
+    { "Secure Supervisor, TDE", { .hdcr = TDE, .cpsr = 0x13, .pc = PC_HERE }, PREFETCH_ABORT, DEBUG,
+      POMURICA_DONE, 0x170C, { { CPSR, 0x197 }, { LR_ABT, 0x8004 }, { PC, 0x0C } }, 3 },
+    { "Monitor, NS 1, TDE", { .scr = NS, .hdcr = TDE, .cpsr = 0x16, .pc = PC_HERE }, PREFETCH_ABORT, DEBUG,
+      POMURICA_DONE, 0x170C, { { CPSR, 0x197 }, { LR_ABT, 0x8004 }, { SCR, 0 } }, 3 },
+    { "Hyp, TDE", { .scr = NS, .hdcr = TDE, .cpsr = 0x1A, .pc = PC_HERE }, PREFETCH_ABORT, DEBUG,
+      POMURICA_DONE, 0x1A0C, { { CPSR, 0x1DA }, { ELR_HYP, 0x8000 }, { PC, 0x0C } }, 3 },
+    { "NS User, TDE, not debug", { .scr = NS, .hdcr = TDE, .cpsr = 0x10, .pc = PC_HERE }, PREFETCH_ABORT, 0,
+      POMURICA_DONE, 0x170C, { { CPSR, 0x197 }, { LR_ABT, 0x8004 }, { PC, 0x0C } }, 3 },
+    { "NS User, TDE, Data Abort", { .scr = NS, .hdcr = TDE, .cpsr = 0x10, .pc = PC_HERE }, DATA_ABORT, 0,
+      POMURICA_DONE, 0x1710, { { CPSR, 0x197 }, { LR_ABT, 0x8008 }, { PC, 0x10 } }, 3 },
+};
+
+/* No. 11: events that are none, on a good block with TDE 1. */
+static const struct {
+    const char *name;
+    uint32_t code, a, b;
+} BAD_DEBUGS[] = {
+    { "debug and external", PREFETCH_ABORT, DEBUG | POMURICA_ABORT_EXTERNAL, 0 },
+    { "debug of stage 2", PREFETCH_ABORT, DEBUG | POMURICA_ABORT_STAGE_2, 0 },
+    { "debug and both", PREFETCH_ABORT, DEBUG | POMURICA_ABORT_EXTERNAL | POMURICA_ABORT_STAGE_2, 0 },
+    { "A 8", PREFETCH_ABORT, 8, 0 },
+    { "A 4 and a bit above", PREFETCH_ABORT, UINT32_C(1) << 31 | DEBUG, 0 },
+    { "debug with B 1", PREFETCH_ABORT, DEBUG, 1 },
+    { "debug with B in its highest bit", PREFETCH_ABORT, DEBUG, UINT32_C(1) << 31 },
+    { "a Data Abort, debug", DATA_ABORT, DEBUG, 0 },
+    { "a note on place 45", NOTE, POMURICA_PLACES, 0 },
 };
 
 /* No. 9: where a mode has its saved word and the address of its return; User and System have none. */
@@ -344,6 +404,7 @@ static void put_start(uint8_t *block, const struct start *start)
     pomurica_put_word(block, CPSR, start->cpsr);
     pomurica_put_word(block, PC, start->pc);
     pomurica_put_word(block, VBAR_NS, start->vbar_ns);
+    pomurica_put_word(block, HDCR, start->hdcr);
 }
 
 static void run_entry(const struct worked_case *worked)
@@ -403,6 +464,58 @@ static void run_bits(void)
     }
 }
 
+/* From Non-secure User with this HDCR a debug abort goes to Hyp, or to Abort. */
+static void run_debug(uint32_t hdcr, bool is_led)
+{
+    const struct start start = { .scr = NS, .hdcr = hdcr, .cpsr = 0x10, .pc = PC_HERE };
+    uint8_t block[POMURICA_BLOCK_SIZE] = { 0 };
+    char name[32];
+    struct call call;
+
+    snprintf(name, sizeof name, "HDCR 0x%X", hdcr);
+    put_start(block, &start);
+    call_whole(&call, name, block, PREFETCH_ABORT, DEBUG, 0);
+    check_value(&call, name, is_led ? 0x1A14 : 0x170C);
+    check(pomurica_get_word(bytes_of(&call.block), HDCR) == hdcr, "%s: HDCR changed", name);
+}
+
+/* Each bit of HDCR alone, and all but it: only TDE counts. */
+static void run_debug_bits(void)
+{
+    for (uint32_t bit = 1; bit != 0; bit <<= 1) {
+        run_debug(bit, bit == TDE);
+        run_debug(~bit, bit != TDE);
+    }
+}
+
+static void run_bad_debugs(void)
+{
+    for (size_t i = 0; i < COUNT(BAD_DEBUGS); i++) {
+        uint8_t block[POMURICA_BLOCK_SIZE] = { 0 };
+        struct call call;
+
+        put_start(block, &(struct start){ .scr = NS, .hdcr = TDE, .cpsr = 0x10, .pc = PC_HERE });
+        call_whole(&call, BAD_DEBUGS[i].name, block, BAD_DEBUGS[i].code, BAD_DEBUGS[i].a, BAD_DEBUGS[i].b);
+        check(call.number == POMURICA_BAD_EVENT && is_unchanged(&call.block), "%s: number %u", BAD_DEBUGS[i].name,
+              call.number);
+        check_value(&call, BAD_DEBUGS[i].name, 0);
+    }
+}
+
+/* A note on HDCR: any word, from any mode. */
+static void run_note(uint32_t cpsr, uint32_t word)
+{
+    uint8_t block[POMURICA_BLOCK_SIZE] = { 0 };
+    struct call call;
+
+    put_start(block, &(struct start){ .scr = NS, .hdcr = TDE, .cpsr = cpsr, .pc = PC_HERE });
+    call_whole(&call, "note on HDCR", block, NOTE, HDCR, word);
+    check_value(&call, "note on HDCR", 0);
+    pomurica_put_word(block, HDCR, word);
+    check(call.number == POMURICA_DONE && memcmp(bytes_of(&call.block), block, sizeof block) == 0,
+          "note of 0x%X from 0x%X: number %u", word, cpsr, call.number);
+}
+
 /* A block that returns from the mode so.  In every other word all bits are set: also in the SPSR of every other mode. */
 static void put_return(uint8_t *block, uint32_t scr, uint32_t hcr, uint32_t mode, uint32_t saved, uint32_t link)
 {
@@ -455,16 +568,17 @@ static uint32_t taken_off(uint32_t code, uint32_t target, uint32_t cpsr)
 }
 
 /* An entry and its return: CPSR is as it was, masks and mode among its bits, and so is PC, or it is behind the SVC. */
-static void run_there_and_back(uint32_t scr, uint32_t hcr, uint32_t cpsr, uint32_t code, uint32_t a)
+static void run_there_and_back(uint32_t scr, uint32_t hcr, uint32_t cpsr, uint32_t code, uint32_t a, uint32_t hdcr)
 {
     const uint32_t behind = code != SVC ? 0 : (cpsr & POMURICA_CPSR_T) != 0 ? 2 : 4;
     uint8_t block[POMURICA_BLOCK_SIZE] = { 0 };
-    char name[80];
+    char name[100];
     struct call entry, back;
     uint32_t target;
 
-    snprintf(name, sizeof name, "code %u, A %u, CPSR 0x%X, SCR 0x%X, HCR 0x%X", code, a, cpsr, scr, hcr);
-    put_start(block, &(struct start){ .scr = scr, .hcr = hcr, .cpsr = cpsr, .pc = PC_HERE });
+    snprintf(name, sizeof name, "code %u, A %u, CPSR 0x%X, SCR 0x%X, HCR 0x%X, HDCR 0x%X", code, a, cpsr, scr, hcr,
+             hdcr);
+    put_start(block, &(struct start){ .scr = scr, .hcr = hcr, .cpsr = cpsr, .pc = PC_HERE, .hdcr = hdcr });
     call_whole(&entry, name, block, code, a, 0);
     target = pomurica_get_word(bytes_of(&entry.answer), POMURICA_ANSWER_VALUE) >> 8 & POMURICA_CPSR_MODE;
     call_whole(&back, name, bytes_of(&entry.block), RETURN, taken_off(code, target, cpsr), 0);
@@ -476,6 +590,18 @@ static void run_there_and_back(uint32_t scr, uint32_t hcr, uint32_t cpsr, uint32
           pomurica_get_word(bytes_of(&back.block), PC));
 }
 
+/* A debug abort, with TDE and without, from User of both states, and to Hyp from Non-secure EL1. */
+static void run_debug_trips(uint32_t fields)
+{
+    for (uint32_t hdcr = 0; hdcr <= TDE; hdcr += TDE) {
+        run_there_and_back(0, 0, fields | POMURICA_MODE_USER, PREFETCH_ABORT, DEBUG, hdcr);
+        run_there_and_back(NS, 0, fields | POMURICA_MODE_USER, PREFETCH_ABORT, DEBUG, hdcr);
+        run_there_and_back(NS, TGE, fields | POMURICA_MODE_USER, PREFETCH_ABORT, DEBUG, hdcr);
+    }
+    run_there_and_back(NS, 0, fields | POMURICA_MODE_SUPERVISOR, PREFETCH_ABORT, DEBUG, TDE);
+    run_there_and_back(NS, 0, fields | POMURICA_MODE_SYSTEM, PREFETCH_ABORT, DEBUG, TDE);
+}
+
 /* From User to the modes that codes 1, 2, 5 and 6 enter, with TGE to Hyp; and to Hyp by stage 2, from Non-secure EL1 too. */
 static void run_round_trips(void)
 {
@@ -485,15 +611,17 @@ static void run_round_trips(void)
         const uint32_t code = CODES[i % COUNT(CODES)];
         const uint32_t fields = i / COUNT(CODES) * POMURICA_CPSR_T; /* T F I A */
 
-        run_there_and_back(0, 0, fields | POMURICA_MODE_USER, code, 0);
-        run_there_and_back(0, TGE, fields | POMURICA_MODE_USER, code, 0);
-        run_there_and_back(NS, 0, fields | POMURICA_MODE_USER, code, 0);
-        run_there_and_back(NS, TGE, fields | POMURICA_MODE_USER, code, 0);
+        run_there_and_back(0, 0, fields | POMURICA_MODE_USER, code, 0, 0);
+        run_there_and_back(0, TGE, fields | POMURICA_MODE_USER, code, 0, 0);
+        run_there_and_back(NS, 0, fields | POMURICA_MODE_USER, code, 0, 0);
+        run_there_and_back(NS, TGE, fields | POMURICA_MODE_USER, code, 0, 0);
+        if (code == PREFETCH_ABORT)
+            run_debug_trips(fields);
         if (code == UNDEFINED || code == SVC)
             continue;
-        run_there_and_back(NS, 0, fields | POMURICA_MODE_USER, code, POMURICA_ABORT_STAGE_2);
-        run_there_and_back(NS, 0, fields | POMURICA_MODE_SUPERVISOR, code, POMURICA_ABORT_STAGE_2);
-        run_there_and_back(NS, 0, fields | POMURICA_MODE_SYSTEM, code, POMURICA_ABORT_STAGE_2);
+        run_there_and_back(NS, 0, fields | POMURICA_MODE_USER, code, POMURICA_ABORT_STAGE_2, 0);
+        run_there_and_back(NS, 0, fields | POMURICA_MODE_SUPERVISOR, code, POMURICA_ABORT_STAGE_2, 0);
+        run_there_and_back(NS, 0, fields | POMURICA_MODE_SYSTEM, code, POMURICA_ABORT_STAGE_2, 0);
     }
 }
 
@@ -576,6 +704,18 @@ int main(void)
         run_refused_call(&REFUSED_CALLS[i]);
     group("calls with each bit of SCR alone, and with all but it");
     run_bits();
+    group("debug aborts, and what is beside them");
+    for (size_t i = 0; i < COUNT(DEBUGS); i++)
+        run_entry(&DEBUGS[i]);
+    group("debug aborts with each bit of HDCR alone, and with all but it");
+    run_debug_bits();
+    group("debug with another bit, or with B, and other events that are none");
+    run_bad_debugs();
+    group("notes on HDCR");
+    run_note(POMURICA_MODE_USER, 0);
+    run_note(POMURICA_MODE_SUPERVISOR, UINT32_MAX);
+    run_note(POMURICA_MODE_HYP, 0x12345678);
+    run_note(POMURICA_MODE_MONITOR, TDE);
     group("returns, legal and illegal");
     for (size_t i = 0; i < COUNT(RETURNS); i++)
         run_return(&RETURNS[i]);
@@ -584,7 +724,7 @@ int main(void)
         run_refused_return(&REFUSED_RETURNS[i]);
     group("entries of codes 1, 2, 5 and 6, and back");
     run_round_trips();
-    group("every length of both buffers from 0 to 200");
+    group("every length of both buffers from 0 to 210");
     run_lengths();
     group("NULL with length 0");
     run_null();

@@ -1,14 +1,17 @@
 /*
- * The checker of the archive, called from C: document 01's worked case l, a
- * trace cut before each of its bytes, bytes behind it, each byte changed, old
- * traces of calls that are disabled now (No. 8) and of returns before there were
- * any (No. 9), and every length of the report from 0 to 200.
+ * The checker of the archive, called from C, on traces of both layouts: document
+ * 01's worked case l, a trace cut before each of its bytes, bytes behind it, each
+ * byte changed, every length and kind in each head, traces that mix the layouts
+ * (No. 11), what the old one does not know, traces of older recorders, with calls
+ * that are disabled now (No. 8) and returns before there were any (No. 9), and
+ * every length of the report from 0 to 210.
  */
 #include "case_l.h"
 #include "edge.h"
 #include "group.h"
 #include "lent.h"
 #include "pomurica.h"
+#include "traces.h"
 
 #include <stdio.h>
 #include <string.h>
@@ -16,10 +19,22 @@
 /* A trace of four Steps: an entry, a refusal, a note and the return. */
 enum {
     STEPS = 4,
-    LENGTH = POMURICA_START_SIZE + STEPS * POMURICA_STEP_SIZE + POMURICA_END_SIZE,
-    END_PLACE = LENGTH - POMURICA_END_SIZE,
-    ONE_STEP = POMURICA_START_SIZE + POMURICA_STEP_SIZE + POMURICA_END_SIZE
+    MOST_LENGTH = POMURICA_START_SIZE + STEPS * POMURICA_STEP_SIZE + POMURICA_END_SIZE
 };
+
+/* The layout of the traces, by which everything here goes. */
+static bool old;
+
+/* The length of a trace of so many Steps. */
+static uint32_t length_of(uint32_t steps)
+{
+    return record_place(old, steps + 1) + POMURICA_END_SIZE;
+}
+
+static uint32_t end_place(void)
+{
+    return record_place(old, STEPS + 1);
+}
 
 /* Where the words of a record lie, counted in words from its head. */
 enum {
@@ -38,27 +53,41 @@ static const uint32_t EVENTS[STEPS][3] = {
     { POMURICA_EVENT_RETURN, 0, 0 },
 };
 
+/* Kinds of a Start, of this layout or of the other, and of a Step. */
+static uint32_t start_kind(bool in_old)
+{
+    return in_old ? POMURICA_OLD_KIND_START : POMURICA_KIND_START;
+}
+
+static uint32_t step_kind(void)
+{
+    return old ? POMURICA_OLD_KIND_STEP : POMURICA_KIND_STEP;
+}
+
 static void put_head(uint8_t *record, uint32_t length, uint32_t kind)
 {
     pomurica_put_word(record, HEAD, length | kind << 16);
 }
 
-/* Writes the trace as a recorder does: each event, its answer, and the block after it, which moves on. */
+/*
+ * Writes the trace as a recorder does: each event, its answer, and the block after it, which moves on.  In the old
+ * layout HDCR of the block is 0, and the events are those that it knows.
+ */
 static void record(uint8_t *trace, uint8_t *block, const uint32_t (*events)[3], uint32_t n)
 {
-    uint8_t *step = trace + POMURICA_START_SIZE;
+    uint8_t *step = trace + start_size(old);
 
-    put_head(trace, POMURICA_START_SIZE, 1);
+    put_head(trace, start_size(old), start_kind(old));
     pomurica_put_word(trace, COUNT, n);
-    memcpy(trace + 4 * START_BLOCK, block, POMURICA_BLOCK_SIZE);
-    for (size_t i = 0; i < n; i++, step += POMURICA_STEP_SIZE) {
-        put_head(step, POMURICA_STEP_SIZE, 2);
+    memcpy(trace + 4 * START_BLOCK, block, block_size(old));
+    for (size_t i = 0; i < n; i++, step += step_size(old)) {
+        put_head(step, step_size(old), step_kind());
         pomurica_put_word(step, CODE, events[i][0]);
         pomurica_put_word(step, A, events[i][1]);
         pomurica_put_word(step, B, events[i][2]);
         pomurica_step(block, POMURICA_BLOCK_SIZE, events[i][0], events[i][1], events[i][2],
                       step + 4 * ANSWER, POMURICA_ANSWER_SIZE);
-        memcpy(step + 4 * STEP_BLOCK, block, POMURICA_BLOCK_SIZE);
+        memcpy(step + 4 * STEP_BLOCK, block, block_size(old));
     }
     put_head(step, POMURICA_END_SIZE, 3);
     pomurica_put_word(step, COUNT, n);
@@ -67,16 +96,16 @@ static void record(uint8_t *trace, uint8_t *block, const uint32_t (*events)[3], 
 /* The first byte of the record in which a byte lies, and the Steps before it. */
 static uint32_t steps_before(size_t byte)
 {
-    if (byte < POMURICA_START_SIZE)
+    if (byte < start_size(old))
         return 0;
-    return (uint32_t)((byte - POMURICA_START_SIZE) / POMURICA_STEP_SIZE);
+    return (uint32_t)((byte - start_size(old)) / step_size(old));
 }
 
 static uint32_t record_of(size_t byte)
 {
-    if (byte < POMURICA_START_SIZE)
+    if (byte < start_size(old))
         return 0;
-    return POMURICA_START_SIZE + steps_before(byte) * POMURICA_STEP_SIZE;
+    return start_size(old) + steps_before(byte) * step_size(old);
 }
 
 /* The bytes that a report holds before a call. */
@@ -102,9 +131,11 @@ static void expect(const uint8_t *bytes, size_t length,
 
 static void run_case_l(void)
 {
+    expect(OLD_SHORTEST, OLD_SHORTEST_SIZE, POMURICA_DONE, OLD_SHORTEST_SIZE, 0);
+    expect(OLD_SHORTEST, OLD_SHORTEST_SIZE - 1, POMURICA_SHORT, OLD_SHORTEST_END, 0);
+    expect(OLD_SHORTEST, 0, POMURICA_SHORT, 0, 0);
     expect(SHORTEST, SHORTEST_SIZE, POMURICA_DONE, SHORTEST_SIZE, 0);
     expect(SHORTEST, SHORTEST_SIZE - 1, POMURICA_SHORT, SHORTEST_END, 0);
-    expect(SHORTEST, 0, POMURICA_SHORT, 0, 0);
 }
 
 static void run_null(void)
@@ -117,50 +148,111 @@ static void run_null(void)
 
 static void run_cut(const uint8_t *trace)
 {
-    for (size_t length = 0; length < LENGTH; length++)
+    for (size_t length = 0; length < length_of(STEPS); length++)
         expect(trace, length, POMURICA_SHORT, record_of(length), steps_before(length));
 }
 
 static void run_trailing(const uint8_t *trace)
 {
-    uint8_t longer[LENGTH + POMURICA_STEP_SIZE] = { 0 };
+    const uint32_t whole = length_of(STEPS);
+    uint8_t longer[MOST_LENGTH + POMURICA_STEP_SIZE] = { 0 };
 
-    memcpy(longer, trace, LENGTH);
-    for (size_t length = LENGTH + 1; length <= sizeof longer; length++)
-        expect(longer, length, POMURICA_TRAILING, LENGTH, STEPS);
-    memcpy(longer + LENGTH, trace + END_PLACE, POMURICA_END_SIZE);
-    expect(longer, LENGTH + POMURICA_END_SIZE, POMURICA_TRAILING, LENGTH, STEPS);
+    memcpy(longer, trace, whole);
+    for (size_t length = whole + 1; length <= whole + POMURICA_STEP_SIZE; length++)
+        expect(longer, length, POMURICA_TRAILING, whole, STEPS);
+    memcpy(longer + whole, trace + end_place(), POMURICA_END_SIZE);
+    expect(longer, whole + POMURICA_END_SIZE, POMURICA_TRAILING, whole, STEPS);
 }
 
 /* Each byte of what the Steps say came of their events. */
 static void run_changed(const uint8_t *trace)
 {
-    uint8_t changed[LENGTH];
+    uint8_t changed[MOST_LENGTH];
 
-    memcpy(changed, trace, LENGTH);
-    for (size_t byte = POMURICA_START_SIZE; byte < END_PLACE; byte++) {
+    memcpy(changed, trace, length_of(STEPS));
+    for (size_t byte = start_size(old); byte < end_place(); byte++) {
         if (byte - record_of(byte) < 4 * ANSWER)
             continue;
         changed[byte] ^= 1;
-        expect(changed, LENGTH, POMURICA_WRONG_STEP, record_of(byte), steps_before(byte));
+        expect(changed, length_of(STEPS), POMURICA_WRONG_STEP, record_of(byte), steps_before(byte));
         changed[byte] ^= 1;
     }
 }
 
 static void run_counts(const uint8_t *trace)
 {
-    uint8_t changed[LENGTH];
+    const size_t whole = length_of(STEPS);
+    uint8_t changed[MOST_LENGTH];
 
-    memcpy(changed, trace, LENGTH);
+    memcpy(changed, trace, whole);
     pomurica_put_word(changed, COUNT, POMURICA_MOST_STEPS + 1);
-    expect(changed, LENGTH, POMURICA_BAD_COUNT, 0, 0);
+    expect(changed, whole, POMURICA_BAD_COUNT, 0, 0);
     pomurica_put_word(changed, COUNT, STEPS + 1);
-    expect(changed, LENGTH, POMURICA_BAD_RECORD, END_PLACE, STEPS);
+    expect(changed, whole, POMURICA_BAD_RECORD, end_place(), STEPS);
     pomurica_put_word(changed, COUNT, STEPS - 1);
-    expect(changed, LENGTH, POMURICA_BAD_RECORD, END_PLACE - POMURICA_STEP_SIZE, STEPS - 1);
+    expect(changed, whole, POMURICA_BAD_RECORD, record_place(old, STEPS), STEPS - 1);
     pomurica_put_word(changed, COUNT, STEPS);
-    pomurica_put_word(changed + END_PLACE, COUNT, STEPS + 1);
-    expect(changed, LENGTH, POMURICA_BAD_COUNT, END_PLACE, STEPS);
+    pomurica_put_word(changed + end_place(), COUNT, STEPS + 1);
+    expect(changed, whole, POMURICA_BAD_COUNT, end_place(), STEPS);
+}
+
+/* The report on the trace with this head of a record.  A Start of the other layout has no record behind it. */
+static void try_head(const uint8_t *trace, uint32_t record, uint32_t length, uint32_t kind)
+{
+    const uint32_t place = record_place(old, record), other = start_size(!old), steps = record == 0 ? 0 : record - 1;
+    uint8_t changed[MOST_LENGTH];
+
+    memcpy(changed, trace, length_of(STEPS));
+    put_head(changed + place, length, kind);
+    if (memcmp(changed + place, trace + place, 4) == 0)
+        expect(changed, length_of(STEPS), POMURICA_DONE, length_of(STEPS), STEPS);
+    else if (record == 0 && length == other && kind == start_kind(!old))
+        expect(changed, length_of(STEPS), POMURICA_BAD_RECORD, other, 0);
+    else
+        expect(changed, length_of(STEPS), POMURICA_BAD_RECORD, place, steps);
+}
+
+/* Every length and kind that a record of either layout has, and some that none has, in each head. */
+static void run_heads(const uint8_t *trace)
+{
+    static const uint32_t LENGTHS[] = {
+        0, 4, POMURICA_END_SIZE, POMURICA_OLD_BLOCK_SIZE, POMURICA_BLOCK_SIZE, POMURICA_OLD_START_SIZE,
+        POMURICA_START_SIZE, 192, POMURICA_OLD_STEP_SIZE, POMURICA_STEP_SIZE, 208, 0xFFFF
+    };
+    static const uint32_t KINDS[] = { 0, 1, 2, 3, 4, 5, 6, 0xFFFF };
+
+    for (uint32_t record = 0; record <= STEPS + 1; record++)
+        for (size_t i = 0; i < sizeof LENGTHS / sizeof LENGTHS[0]; i++)
+            for (size_t j = 0; j < sizeof KINDS / sizeof KINDS[0]; j++)
+                try_head(trace, record, LENGTHS[i], KINDS[j]);
+}
+
+/* What the old layout does not know: an event, and the answer that the new one gives where HDCR is 0. */
+static const struct {
+    uint32_t code, a, b;
+} NEW_ALONE[] = {
+    { POMURICA_EVENT_PREFETCH_ABORT, POMURICA_ABORT_DEBUG, 0 },
+    { POMURICA_EVENT_NOTE, POMURICA_PLACE_HDCR, 0 },
+    { POMURICA_EVENT_NOTE, POMURICA_PLACE_HDCR, POMURICA_HDCR_TDE },
+};
+
+/* A trace of one Step: refused with BAD_EVENT, and as the new layout has it done. */
+static void run_new_alone(uint32_t cpsr)
+{
+    for (size_t i = 0; i < sizeof NEW_ALONE / sizeof NEW_ALONE[0]; i++) {
+        const uint32_t event[1][3] = { { NEW_ALONE[i].code, NEW_ALONE[i].a, NEW_ALONE[i].b } };
+        const uint32_t whole = length_of(1), start = start_size(old);
+        uint8_t trace[MOST_LENGTH], block[POMURICA_BLOCK_SIZE] = { 0 };
+
+        pomurica_put_word(block, POMURICA_PLACE_CPSR, cpsr);
+        pomurica_put_word(block, POMURICA_PLACE_SCR, POMURICA_SCR_NS);
+        record(trace, block, event, 1); /* as the new layout does it */
+        expect(trace, whole, old ? POMURICA_WRONG_STEP : POMURICA_DONE, old ? start : whole, old ? 0 : 1);
+        pomurica_put_word(trace + start, ANSWER, POMURICA_BAD_EVENT);
+        pomurica_put_word(trace + start, ANSWER + 1, 0);
+        memcpy(trace + start + 4 * STEP_BLOCK, trace + 4 * START_BLOCK, block_size(old));
+        expect(trace, whole, old ? POMURICA_DONE : POMURICA_WRONG_STEP, old ? whole : start, old ? 1 : 0);
+    }
 }
 
 /* A call from one block, with a word of SCR that enables it and one that does not. */
@@ -184,21 +276,22 @@ static const struct call CALLS[] = {
 static void run_call(const struct call *call)
 {
     const uint32_t event[1][3] = { { call->code, 0, 0 } };
-    uint8_t trace[ONE_STEP], block[POMURICA_BLOCK_SIZE] = { 0 };
-    uint8_t *const step = trace + POMURICA_START_SIZE;
+    const uint32_t whole = length_of(1);
+    uint8_t trace[MOST_LENGTH], block[POMURICA_BLOCK_SIZE] = { 0 };
+    uint8_t *const step = trace + start_size(old);
 
     pomurica_put_word(block, POMURICA_PLACE_CPSR, call->cpsr);
     pomurica_put_word(block, POMURICA_PLACE_SCR, call->enabled);
     record(trace, block, event, 1);
     check(pomurica_get_word(step, ANSWER) == POMURICA_DONE, "code %u: not taken", call->code);
-    expect(trace, sizeof trace, POMURICA_DONE, sizeof trace, 1);
+    expect(trace, whole, POMURICA_DONE, whole, 1);
     pomurica_put_word(trace, START_BLOCK + POMURICA_PLACE_SCR, call->disabled);
     pomurica_put_word(step, STEP_BLOCK + POMURICA_PLACE_SCR, call->disabled);
-    expect(trace, sizeof trace, POMURICA_WRONG_STEP, POMURICA_START_SIZE, 0);
+    expect(trace, whole, POMURICA_WRONG_STEP, start_size(old), 0);
     memset(step + 4 * ANSWER, 0, POMURICA_ANSWER_SIZE);
     pomurica_put_word(step, ANSWER, POMURICA_DISABLED);
-    memcpy(step + 4 * STEP_BLOCK, trace + 4 * START_BLOCK, POMURICA_BLOCK_SIZE);
-    expect(trace, sizeof trace, POMURICA_DONE, sizeof trace, 1);
+    memcpy(step + 4 * STEP_BLOCK, trace + 4 * START_BLOCK, block_size(old));
+    expect(trace, whole, POMURICA_DONE, whole, 1);
 }
 
 /* A return from Non-secure Supervisor by a saved word, and the CPSR that it leaves. */
@@ -215,8 +308,9 @@ static const struct {
 static void run_return(uint32_t saved, uint32_t cpsr)
 {
     const uint32_t event[1][3] = { { POMURICA_EVENT_RETURN, 4, 0 } };
-    uint8_t trace[ONE_STEP], block[POMURICA_BLOCK_SIZE] = { 0 };
-    uint8_t *const step = trace + POMURICA_START_SIZE;
+    const uint32_t whole = length_of(1);
+    uint8_t trace[MOST_LENGTH], block[POMURICA_BLOCK_SIZE] = { 0 };
+    uint8_t *const step = trace + start_size(old);
 
     pomurica_put_word(block, POMURICA_PLACE_CPSR, POMURICA_MODE_SUPERVISOR);
     pomurica_put_word(block, POMURICA_PLACE_SCR, POMURICA_SCR_NS);
@@ -224,14 +318,14 @@ static void run_return(uint32_t saved, uint32_t cpsr)
     record(trace, block, event, 1);
     check(pomurica_get_word(step, STEP_BLOCK + POMURICA_PLACE_CPSR) == cpsr, "saved 0x%X: CPSR 0x%X", saved,
           pomurica_get_word(step, STEP_BLOCK + POMURICA_PLACE_CPSR));
-    expect(trace, sizeof trace, POMURICA_DONE, sizeof trace, 1);
+    expect(trace, whole, POMURICA_DONE, whole, 1);
     pomurica_put_word(step, STEP_BLOCK + POMURICA_PLACE_CPSR, cpsr ^ POMURICA_MODE_USER ^ POMURICA_MODE_SYSTEM);
-    expect(trace, sizeof trace, POMURICA_WRONG_STEP, POMURICA_START_SIZE, 0);
+    expect(trace, whole, POMURICA_WRONG_STEP, start_size(old), 0);
     pomurica_put_word(step, STEP_BLOCK + POMURICA_PLACE_CPSR, cpsr ^ POMURICA_CPSR_IL);
-    expect(trace, sizeof trace, POMURICA_WRONG_STEP, POMURICA_START_SIZE, 0);
+    expect(trace, whole, POMURICA_WRONG_STEP, start_size(old), 0);
     pomurica_put_word(step, ANSWER, POMURICA_BAD_EVENT);
-    memcpy(step + 4 * STEP_BLOCK, trace + 4 * START_BLOCK, POMURICA_BLOCK_SIZE);
-    expect(trace, sizeof trace, POMURICA_WRONG_STEP, POMURICA_START_SIZE, 0);
+    memcpy(step + 4 * STEP_BLOCK, trace + 4 * START_BLOCK, block_size(old));
+    expect(trace, whole, POMURICA_WRONG_STEP, start_size(old), 0);
 }
 
 static void run_report_lengths(const uint8_t *trace)
@@ -242,40 +336,55 @@ static void run_report_lengths(const uint8_t *trace)
 
         if (length == POMURICA_REPORT_SIZE)
             continue;
-        check(pomurica_check(trace, LENGTH, report, length) == POMURICA_BAD_SIZE &&
+        check(pomurica_check(trace, length_of(STEPS), report, length) == POMURICA_BAD_SIZE &&
                   take_back(&lent) && is_unchanged(&lent),
               "report of %zu bytes", length);
     }
 }
 
-int main(void)
+/* All of it with traces of one layout. */
+static void run_in(bool in_old)
 {
-    uint8_t trace[LENGTH], block[POMURICA_BLOCK_SIZE] = { 0 };
+    const char *const layout = layout_name(in_old);
+    uint8_t trace[MOST_LENGTH], block[POMURICA_BLOCK_SIZE] = { 0 };
 
-    open_edge(LENGTH + POMURICA_STEP_SIZE);
+    old = in_old;
     pomurica_put_word(block, POMURICA_PLACE_CPSR, POMURICA_MODE_USER);
     record(trace, block, EVENTS, STEPS);
-    group("worked case l");
+    group_of(layout, "an honest trace");
+    expect(trace, length_of(STEPS), POMURICA_DONE, length_of(STEPS), STEPS);
+    group_of(layout, "cut before each byte");
+    run_cut(trace);
+    group_of(layout, "bytes behind the End");
+    run_trailing(trace);
+    group_of(layout, "each byte of answer, value and block after changed");
+    run_changed(trace);
+    group_of(layout, "wrong counts");
+    run_counts(trace);
+    group_of(layout, "every length and kind in each head");
+    run_heads(trace);
+    group_of(layout, "a debug abort and notes on HDCR, shown as done and as refused");
+    run_new_alone(POMURICA_MODE_USER);
+    run_new_alone(POMURICA_MODE_SUPERVISOR);
+    run_new_alone(POMURICA_MODE_HYP);
+    group_of(layout, "calls that are disabled, shown as taken and as refused");
+    for (size_t i = 0; i < sizeof CALLS / sizeof CALLS[0]; i++)
+        run_call(&CALLS[i]);
+    group_of(layout, "returns, shown as done, as another came of it, and as an unknown event");
+    for (size_t i = 0; i < sizeof RETURNS / sizeof RETURNS[0]; i++)
+        run_return(RETURNS[i].saved, RETURNS[i].cpsr);
+    group_of(layout, "every length of the report from 0 to 210");
+    run_report_lengths(trace);
+}
+
+int main(void)
+{
+    open_edge(MOST_LENGTH + POMURICA_STEP_SIZE);
+    group("worked case l, and the same in the new layout");
     run_case_l();
     group("NULL with length 0, checker");
     run_null();
-    group("an honest trace");
-    expect(trace, LENGTH, POMURICA_DONE, LENGTH, STEPS);
-    group("cut before each byte");
-    run_cut(trace);
-    group("bytes behind the End");
-    run_trailing(trace);
-    group("each byte of answer, value and block after changed");
-    run_changed(trace);
-    group("wrong counts");
-    run_counts(trace);
-    group("calls that are disabled, shown as taken and as refused");
-    for (size_t i = 0; i < sizeof CALLS / sizeof CALLS[0]; i++)
-        run_call(&CALLS[i]);
-    group("returns, shown as done, as another came of it, and as an unknown event");
-    for (size_t i = 0; i < sizeof RETURNS / sizeof RETURNS[0]; i++)
-        run_return(RETURNS[i].saved, RETURNS[i].cpsr);
-    group("every length of the report from 0 to 200");
-    run_report_lengths(trace);
+    run_in(false);
+    run_in(true);
     return summary();
 }

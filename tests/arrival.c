@@ -1,6 +1,6 @@
 /*
- * host/arrival.c and host/done.c: traces that arrive in pieces, honest and
- * damaged, in pieces of every size up to 200 and in pieces of chance.  However
+ * host/arrival.c and host/done.c: traces of both layouts that arrive in pieces,
+ * honest and damaged, in pieces of every size up to 210 and of chance.  However
  * they are cut, they come to the checker's report; a fault is known with the
  * byte of document 02, No. 6, and told once; and the done Steps are those that
  * the records of the whole trace show.
@@ -34,17 +34,17 @@ static uint32_t done_steps(const uint8_t *trace, uint32_t steps)
     uint32_t done = 0;
 
     for (uint32_t index = 0; index < steps; index++)
-        done += pomurica_get_word(trace + step_place(index), POMURICA_STEP_NUMBER) == POMURICA_DONE;
+        done += pomurica_get_word(step_at(trace, index), POMURICA_STEP_NUMBER) == POMURICA_DONE;
     return done;
 }
 
 /* The bytes up to the one with which a fault is known; all, where none is. */
-static uint32_t bytes_due(uint32_t fault, uint32_t place, size_t length)
+static uint32_t bytes_due(const uint8_t *trace, uint32_t fault, uint32_t place, size_t length)
 {
     switch (fault) {
     case POMURICA_BAD_RECORD: return place + HEAD_SIZE;
-    case POMURICA_BAD_COUNT: return place + (place == 0 ? START_SIZE : END_SIZE);
-    case POMURICA_WRONG_STEP: return place + STEP_SIZE;
+    case POMURICA_BAD_COUNT: return place + (place == 0 ? start_size(is_old(trace)) : END_SIZE);
+    case POMURICA_WRONG_STEP: return place + step_size(is_old(trace));
     case POMURICA_TRAILING: return place + 1;
     default: return (uint32_t)length;
     }
@@ -56,7 +56,7 @@ static struct sent due_of(const uint8_t *trace, size_t length)
     const uint32_t number = pomurica_check(trace, length, due.report, sizeof due.report);
 
     due.fault = number == POMURICA_SHORT ? POMURICA_DONE : number;
-    due.taken = bytes_due(due.fault, pomurica_get_word(due.report, POMURICA_REPORT_PLACE), length);
+    due.taken = bytes_due(trace, due.fault, pomurica_get_word(due.report, POMURICA_REPORT_PLACE), length);
     due.done = number == POMURICA_DONE ? done_steps(trace, pomurica_get_word(due.report, POMURICA_REPORT_STEPS)) : 0;
     return due;
 }
@@ -127,7 +127,7 @@ static void arrive(struct chance *chance, enum damage damage)
     struct expected expected;
 
     for (int i = 0; i < EACH_CUT + ANY_CUT; i++) {
-        const size_t length = make_trace(chance, damage, trace, &expected);
+        const size_t length = make_either(chance, damage, trace, &expected);
         const struct sent due = due_of(trace, length);
 
         send_anyhow(chance, &due);
@@ -143,33 +143,36 @@ static void count_whole(struct chance *chance)
 
     for (uint32_t steps = 0; steps <= MADE_STEPS; steps++) {
         record_trace(chance, MADE_STEPS, trace);
-        check(count_done(lend_at_edge(trace, step_place(steps)), steps) == done_steps(trace, steps), "%u Steps",
+        check(count_done(lend_at_edge(trace, step_place(trace, steps)), steps) == done_steps(trace, steps), "%u Steps",
               (unsigned)steps);
     }
     check(count_done(NULL, 0) == 0, "no trace at all");
 }
 
 /* Each byte of an answer number makes it one that is not DONE, wherever the trace is cut. */
-static void count_each_byte(void)
+static void count_each_byte(uint32_t head)
 {
-    enum { STEPS = 3, LENGTH = START_SIZE + STEPS * STEP_SIZE + END_SIZE };
+    enum { STEPS = 3, MOST_LENGTH = START_SIZE + STEPS * STEP_SIZE + END_SIZE };
+    const bool old = head == POMURICA_OLD_START_HEAD;
+    const uint32_t length = record_place(old, STEPS + 1) + END_SIZE;
 
-    for (uint32_t place = START_SIZE; place < LENGTH; place++)
+    for (uint32_t place = start_size(old); place < length; place++)
         for (size_t cut = place - 1; cut <= place + 1; cut++) {
-            uint8_t trace[LENGTH] = { 0 };
+            uint8_t trace[MOST_LENGTH] = { 0 };
             struct done done;
 
+            pomurica_put_word(trace, POMURICA_RECORD_HEAD, head);
             trace[place] = 0x80;
             begin_done(&done);
             count_done_in(&done, trace, cut);
-            count_done_in(&done, trace + cut, LENGTH - cut);
+            count_done_in(&done, trace + cut, length - cut);
             check(done.steps == done_steps(trace, STEPS), "byte %u: %u Steps done", (unsigned)place, (unsigned)done.steps);
         }
 }
 
 int main(void)
 {
-    struct chance chance = { 6 };
+    struct chance chance = { .seed = 6 };
 
     open_edge(MADE_SIZE);
     for (int damage = HONEST; damage < DAMAGES; damage++) {
@@ -178,7 +181,10 @@ int main(void)
     }
     group("the done Steps of a trace that is there whole");
     count_whole(&chance);
+    chance.old = true;
+    count_whole(&chance);
     group("each byte of each Step, and a cut beside it");
-    count_each_byte();
+    count_each_byte(POMURICA_START_HEAD);
+    count_each_byte(POMURICA_OLD_START_HEAD);
     return summary();
 }

@@ -69,9 +69,36 @@ struct verdict verdict_of(const uint8_t *bytes, size_t length)
     return verdict;
 }
 
+static bool in_old;
+
+void arrive_in(bool old)
+{
+    in_old = old;
+}
+
+bool is_arriving_in_old(void)
+{
+    return in_old;
+}
+
+size_t trace_length(void)
+{
+    return end_place() + END_SIZE;
+}
+
+uint32_t end_place(void)
+{
+    return record_begin(STEPS + 1);
+}
+
+uint32_t record_begin(uint32_t record)
+{
+    return record_place(in_old, record);
+}
+
 uint32_t record_end(uint32_t record)
 {
-    return record <= STEPS ? record_place(record + 1) : LENGTH;
+    return record <= STEPS ? record_begin(record + 1) : (uint32_t)trace_length();
 }
 
 uint32_t record_of(size_t byte)
@@ -86,17 +113,18 @@ uint32_t record_of(size_t byte)
 /* The last block is that of the Start, or of the last Step: each has it at its end. */
 struct pomurica_session words_due(const uint8_t *trace, size_t length)
 {
-    const uint32_t record = record_of(length), place = record < RECORDS ? record_place(record) : LENGTH;
-    const uint32_t block_end = record < RECORDS ? place : END_PLACE;
+    const uint32_t record = record_of(length);
+    const uint32_t place = record < RECORDS ? record_begin(record) : (uint32_t)trace_length();
+    const uint32_t block_end = record < RECORDS ? place : end_place();
     struct pomurica_session due = { .place = place, .held = (uint32_t)length - place };
 
     memcpy(due.unfinished, trace + place, due.held);
     if (record == 0)
         return due;
-    due.stage = record < RECORDS ? POMURICA_STAGE_NEXT : POMURICA_STAGE_OVER;
+    due.stage = record == RECORDS ? POMURICA_STAGE_OVER : in_old ? POMURICA_STAGE_OLD_NEXT : POMURICA_STAGE_NEXT;
     due.count = STEPS;
     due.steps = record <= STEPS ? record - 1 : STEPS;
-    memcpy(due.block, trace + block_end - POMURICA_BLOCK_SIZE, POMURICA_BLOCK_SIZE);
+    memcpy(due.block, trace + block_end - block_size(in_old), block_size(in_old));
     return due;
 }
 

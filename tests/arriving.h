@@ -1,8 +1,8 @@
 /*
- * A trace of three Steps that arrives: the calls of a session behind the
- * header, checked for what holds of any, and what the session holds after each
- * byte.  Runs are lent at the edge of a page without rights, session and report
- * between guard bytes.
+ * A trace of three Steps that arrives, in one layout and in the other: the calls
+ * of a session behind the header, checked for what holds of any, and what the
+ * session holds after each byte.  Runs are lent at the edge of a page without
+ * rights, session and report between guard bytes.
  */
 #ifndef ARRIVING_H
 #define ARRIVING_H
@@ -12,10 +12,19 @@
 
 enum {
     STEPS = 3,
-    LENGTH = POMURICA_START_SIZE + STEPS * POMURICA_STEP_SIZE + POMURICA_END_SIZE,
-    END_PLACE = LENGTH - POMURICA_END_SIZE,
+    MOST_LENGTH = POMURICA_START_SIZE + STEPS * POMURICA_STEP_SIZE + POMURICA_END_SIZE,
     RECORDS = STEPS + 2
 };
+
+/* The layout of the trace that arrives.  Everything here goes by it. */
+void arrive_in(bool old);
+bool is_arriving_in_old(void);
+
+/* How long the trace is, and where a record of it begins and ends; the End is the last. */
+size_t trace_length(void);
+uint32_t end_place(void);
+uint32_t record_begin(uint32_t record);
+uint32_t record_end(uint32_t record);
 
 /* What a report says. */
 struct verdict {
@@ -40,11 +49,10 @@ void expect_closing(struct fed *fed, const struct verdict *due);
 /* No more calls: no guard byte of the session changed. */
 void finish(struct fed *fed);
 
-/* Where a record of the trace ends; the record in which a byte lies, RECORDS for one behind the trace. */
-uint32_t record_end(uint32_t record);
+/* The record in which a byte lies, RECORDS for one behind the trace. */
 uint32_t record_of(size_t byte);
 
-/* What a session is after the first bytes of the trace; and what it becomes when a fault is known. */
+/* What a session is after the first bytes of the trace; and what any session becomes when a fault is known. */
 struct pomurica_session words_due(const uint8_t *trace, size_t length);
 struct pomurica_session faulted(struct pomurica_session words, uint32_t number);
 

@@ -52,6 +52,13 @@ static const struct {
     { { POMURICA_EVENT_BANKED_READ, 62, 0 }, { POMURICA_OWN_REGISTER, 0 } },
     { { POMURICA_EVENT_BANKED_READ, 29, 0 }, { POMURICA_NO_RIGHT, 0 } },
     { { POMURICA_EVENT_BANKED_READ, 30, 0 }, { POMURICA_DONE, 0x1000000C } },                 /* ELR_hyp: behind the HVC */
+    { { POMURICA_EVENT_NOTE, POMURICA_PLACE_HDCR, POMURICA_HDCR_TDE }, { POMURICA_DONE, 0 } },
+    { { POMURICA_EVENT_PREFETCH_ABORT, POMURICA_ABORT_DEBUG, 0 }, { POMURICA_DONE, 0x1A0C } }, /* in Hyp itself */
+    { { POMURICA_EVENT_PREFETCH_ABORT, 5, 0 }, { POMURICA_BAD_EVENT, 0 } },
+    { { POMURICA_EVENT_RETURN, 0, 0 }, { POMURICA_DONE, 0 } },                                /* to where it was */
+    { { POMURICA_EVENT_NOTE, POMURICA_PLACE_CPSR, POMURICA_MODE_USER }, { POMURICA_DONE, 0 } },
+    { { POMURICA_EVENT_PREFETCH_ABORT, POMURICA_ABORT_DEBUG, 0 }, { POMURICA_DONE, 0x1A14 } }, /* by TDE */
+    { { POMURICA_EVENT_NOTE, POMURICA_PLACES, 0 }, { POMURICA_BAD_EVENT, 0 } },
 };
 
 /* The words that are not 0 after the list, all of them. */
@@ -61,14 +68,15 @@ static const struct {
     { POMURICA_PLACE_LR_IRQ, 0x8004 },
     { POMURICA_PLACE_SP_IRQ, NEW_WORD },
     { POMURICA_PLACE_LR_SVC, 0x9008 },
-    { POMURICA_PLACE_ELR_HYP, 0x1000000C },
+    { POMURICA_PLACE_ELR_HYP, 0x14 },
     { POMURICA_PLACE_SPSR_IRQ, POMURICA_MODE_SUPERVISOR },
     { POMURICA_PLACE_SPSR_SVC, POMURICA_CPSR_A | POMURICA_CPSR_I | POMURICA_MODE_IRQ },
-    { POMURICA_PLACE_SPSR_HYP, POMURICA_CPSR_A | POMURICA_CPSR_I | POMURICA_MODE_SUPERVISOR },
+    { POMURICA_PLACE_SPSR_HYP, POMURICA_MODE_USER },
     { POMURICA_PLACE_CPSR, POMURICA_CPSR_A | POMURICA_CPSR_I | POMURICA_CPSR_F | POMURICA_MODE_HYP },
     { POMURICA_PLACE_PC, 0x14 },
     { POMURICA_PLACE_SCR, CALLS },
     { POMURICA_PLACE_VBAR_NS, 0x10000000 },
+    { POMURICA_PLACE_HDCR, POMURICA_HDCR_TDE },
 };
 
 enum {
@@ -183,7 +191,7 @@ static void do_unequal(void)
     do_bad_size(0, LONG_LIST, POMURICA_BLOCK_SIZE);
 }
 
-/* Every length of a block from 0 to 200, for lists that are long, short and empty. */
+/* Every length of a block from 0 to 210, for lists that are long, short and empty. */
 static void do_blocks(void)
 {
     for (size_t block_len = 0; block_len <= LONGEST_TRIED; block_len++) {
@@ -227,7 +235,7 @@ int main(void)
     do_not_good(POMURICA_CPSR_BITS_24_21 | POMURICA_MODE_SUPERVISOR, POMURICA_BAD_STATE);
     group("lists of unequal lengths");
     do_unequal();
-    group("every length of the block from 0 to 200 but its own");
+    group("every length of the block from 0 to 210 but its own");
     do_blocks();
     group("NULL with length 0");
     do_null();

@@ -18,7 +18,7 @@ static const uint32_t OFF_LR[] = { 0, 2, 4, 8 };
 #define OFF_COUNT (sizeof OFF_LR / sizeof OFF_LR[0])
 
 const uint32_t LARGEST_A[CODES] = {
-    [CODE_PREFETCH_ABORT] = 3,
+    [CODE_PREFETCH_ABORT] = ABORT_DEBUG,
     [CODE_DATA_ABORT] = 3,
     [CODE_INTERRUPT_CHECK] = 31,
     [CODE_BANKED_READ] = 63,
@@ -26,6 +26,22 @@ const uint32_t LARGEST_A[CODES] = {
     [CODE_NOTE] = PLACES - 1,
     [CODE_RETURN] = 8,
 };
+
+/* The places of a block that the numbers are for. */
+static uint32_t places(const struct chance *chance)
+{
+    return chance->old ? OLD_PLACES : PLACES;
+}
+
+/* The largest A of a code there; 0 of a number that is none. */
+static uint32_t largest_a(const struct chance *chance, uint32_t code)
+{
+    if (code == CODE_NOTE)
+        return places(chance) - 1;
+    if (chance->old && code == CODE_PREFETCH_ABORT)
+        return LARGEST_A[CODE_DATA_ABORT];
+    return code < CODES ? LARGEST_A[code] : 0;
+}
 
 /* SplitMix64. */
 uint32_t any_word(struct chance *chance)
@@ -45,6 +61,16 @@ uint32_t any_below(struct chance *chance, uint32_t limit)
 bool one_in(struct chance *chance, uint32_t times)
 {
     return any_below(chance, times) == 0;
+}
+
+void choose_layout(struct chance *chance)
+{
+    chance->old = chance->strays = one_in(chance, 2);
+}
+
+void leave_layout(struct chance *chance)
+{
+    chance->old = chance->strays = false;
 }
 
 /* A word of one bit. */
@@ -119,7 +145,8 @@ void good_block(struct chance *chance, uint8_t *block)
     const uint32_t mode = MODES[any_below(chance, MODE_COUNT)];
     uint32_t scr = any_word(chance), hcr = any_word(chance);
 
-    for (uint32_t place = 0; place < PLACES; place++)
+    put(block, HDCR, 0);
+    for (uint32_t place = 0; place < places(chance); place++)
         put(block, place, is_saved(place) ? any_saved(chance) : any_word(chance));
     if (mode == MODE_HYP)
         scr |= SCR_NS;
@@ -159,7 +186,8 @@ void any_block(struct chance *chance, uint8_t *block)
 {
     switch (any_below(chance, 32)) {
     case 0:
-        any_bytes(chance, block, BLOCK_SIZE);
+        put(block, HDCR, 0);
+        any_bytes(chance, block, 4 * places(chance));
         break;
     case 1:
         almost_good_block(chance, block);
@@ -173,7 +201,7 @@ void any_block(struct chance *chance, uint8_t *block)
 /* A note: now and then on a word that steers, and then mostly one that keeps the block good. */
 static struct event any_note(struct chance *chance, const uint8_t *block)
 {
-    struct event note = { CODE_NOTE, any_below(chance, PLACES), any_word(chance) };
+    struct event note = { CODE_NOTE, any_below(chance, places(chance)), any_word(chance) };
 
     if (one_in(chance, 2)) {
         if (is_saved(note.a))
@@ -219,7 +247,7 @@ struct event event_of(struct chance *chance, uint32_t code, const uint8_t *block
     case CODE_PREFETCH_ABORT:
     case CODE_DATA_ABORT:
     case CODE_BANKED_READ:
-        event.a = any_below(chance, LARGEST_A[code] + 1);
+        event.a = any_below(chance, largest_a(chance, code) + 1);
         break;
     case CODE_INTERRUPT_CHECK:
         event.a = any_below(chance, LARGEST_A[code] + 1);
@@ -245,7 +273,7 @@ struct event event_of(struct chance *chance, uint32_t code, const uint8_t *block
 /* An A at the end of its range: the largest, one beside it, or the largest with a bit more. */
 static uint32_t a_near_largest(struct chance *chance, uint32_t code)
 {
-    const uint32_t largest = code < CODES ? LARGEST_A[code] : 0;
+    const uint32_t largest = largest_a(chance, code);
 
     switch (any_below(chance, 4)) {
     case 0: return largest - 1;
@@ -290,8 +318,29 @@ static struct event odd_event(struct chance *chance, const uint8_t *block)
     return event;
 }
 
+/*
+ * What the old layout does not know: a debug abort, now and then with another bit beside it, and a note on HDCR; and a
+ * return with that A, which is no place there.
+ */
+static struct event event_of_new(struct chance *chance)
+{
+    switch (any_below(chance, 8)) {
+    case 0:
+    case 1:
+        return (struct event){ CODE_NOTE, HDCR, any_word(chance) };
+    case 2:
+        return (struct event){ CODE_PREFETCH_ABORT, ABORT_DEBUG + any_below(chance, ABORT_DEBUG), 0 };
+    case 3:
+        return (struct event){ CODE_RETURN, HDCR, 0 };
+    default:
+        return (struct event){ CODE_PREFETCH_ABORT, ABORT_DEBUG, 0 };
+    }
+}
+
 struct event any_event(struct chance *chance, const uint8_t *block)
 {
+    if ((!chance->old || chance->strays) && one_in(chance, 32))
+        return event_of_new(chance);
     if (one_in(chance, 10))
         return odd_event(chance, block);
     if (one_in(chance, 8)) /* the event with the most cases */

@@ -13,6 +13,8 @@
 /* Where the numbers come from; any seed will do. */
 struct chance {
     uint64_t seed;
+    bool old;    /* whether blocks and events are of the old layout (No. 11): with HDCR 0, and without debug */
+    bool strays; /* whether events that it does not know come among them all the same, as in the new one */
 };
 
 struct event {
@@ -30,8 +32,12 @@ struct saving {
 };
 extern const struct saving SAVINGS[SAVING_COUNT];
 
-/* The largest A of each of the thirteen codes; 0 where the event has none. */
+/* The largest A of each of the thirteen codes, in the new layout; 0 where the event has none. */
 extern const uint32_t LARGEST_A[];
+
+/* From here on either layout by chance, with strays; and the new one again. */
+void choose_layout(struct chance *chance);
+void leave_layout(struct chance *chance);
 
 uint32_t any_word(struct chance *chance);
 uint32_t any_below(struct chance *chance, uint32_t limit);

@@ -76,7 +76,7 @@ static void compare_case_k(void)
 int main(int argc, char **argv)
 {
     const unsigned long millions = argc > 1 ? strtoul(argv[1], NULL, 10) : MILLIONS;
-    struct chance chance = { argc > 2 ? strtoull(argv[2], NULL, 10) : SEED };
+    struct chance chance = { .seed = argc > 2 ? strtoull(argv[2], NULL, 10) : SEED };
     static struct question question;
     static struct call ours;
 

@@ -255,7 +255,7 @@ static void show_met(unsigned long thousands)
 int main(int argc, char **argv)
 {
     const unsigned long thousands = argc > 1 ? strtoul(argv[1], NULL, 10) : THOUSANDS;
-    struct chance chance = { argc > 2 ? strtoull(argv[2], NULL, 10) : SEED };
+    struct chance chance = { .seed = argc > 2 ? strtoull(argv[2], NULL, 10) : SEED };
 
     open_edge(POMURICA_LONGEST_TRACE);
     printf("%lu thousand traces, seed %" PRIu64 "\n", thousands, chance.seed);

@@ -1,9 +1,9 @@
 /*
- * The session behind the header against another, on traces of chance, honest
- * and damaged, cut by chance: the number of each feeding, every byte of the
- * session after it, the report of each closing, guard bytes, and runs that stay
- * as they were.  What is fed and closed is also what the checker behind the
- * header says of the whole, known with the byte with which it has to be.  Then
+ * The session behind the header against another, on traces of chance, of both
+ * layouts, honest and damaged, cut by chance: the number of each feeding, every
+ * byte of the session after it, the report of each closing, guard bytes, and runs
+ * that stay as they were.  What is fed and closed is also what the checker behind
+ * the header says of the whole, known with the byte with which it has to be.  Then
  * sessions that no feeding left.
  *
  *     compare_sessions [THOUSANDS SEED]
@@ -69,20 +69,23 @@ static const char *const KIND_NAMES[KINDS] = {
 
 /* What a session that no feeding left is counted as. */
 enum odd {
-    ODD_STAGE, ODD_FAULT, ODD_CLOSED, TOO_MUCH_HELD, FEWER_THAN_FOUND, ODD_HEAD, NOT_CLEARED, WRAPPED, WENT_ON, ENDED,
+    ODD_STAGE, ODD_FAULT, ODD_CLOSED, TOO_MUCH_HELD, FEWER_THAN_FOUND, ODD_HEAD, NOT_CLEARED,
+    BEHIND_OLD, OLD_WENT_ON, OLD_FAILED, WRAPPED, WENT_ON, ENDED,
     ODDS
 };
 static const char *const ODD_NAMES[ODDS] = {
-    [ODD_STAGE] = "a stage above 2", [ODD_FAULT] = "a fault before", [ODD_CLOSED] = "closed before",
+    [ODD_STAGE] = "a stage above 3", [ODD_FAULT] = "a fault before", [ODD_CLOSED] = "closed before",
     [TOO_MUCH_HELD] = "more held than is due", [FEWER_THAN_FOUND] = "counts fewer Steps than it found",
     [ODD_HEAD] = "holds a wrong head", [NOT_CLEARED] = "rubbish behind what it holds",
+    [BEHIND_OLD] = "bytes behind an old block or record", [OLD_WENT_ON] = "they stayed, a record was right",
+    [OLD_FAILED] = "they went, a fault became known",
     [WRAPPED] = "its place wrapped", [WENT_ON] = "a record was found right", [ENDED] = "was over at closing",
 };
 
 /* How often each thing was met. */
 static struct {
     unsigned long fed[NUMBERS], closed[NUMBERS]; /* numbers of feedings and of closings */
-    unsigned long cut[DUES][CUTS], run[KINDS];
+    unsigned long cut[2][DUES][CUTS], run[KINDS]; /* cuts of the old layout apart, where the stage tells it */
     unsigned long odd[ODDS], odd_fed[NUMBERS], odd_closed[NUMBERS];
 } met;
 
@@ -154,12 +157,12 @@ struct whole {
     size_t known;
 };
 
-static size_t bytes_until_known(uint32_t number, uint32_t place)
+static size_t bytes_until_known(bool old, uint32_t number, uint32_t place)
 {
     switch (number) {
     case POMURICA_BAD_RECORD: return (size_t)place + HEAD_SIZE;
-    case POMURICA_BAD_COUNT: return (size_t)place + (place == 0 ? START_SIZE : END_SIZE);
-    case POMURICA_WRONG_STEP: return (size_t)place + STEP_SIZE;
+    case POMURICA_BAD_COUNT: return (size_t)place + (place == 0 ? start_size(old) : END_SIZE);
+    case POMURICA_WRONG_STEP: return (size_t)place + step_size(old);
     case POMURICA_TRAILING: return (size_t)place + 1;
     default: return SIZE_MAX;
     }
@@ -170,7 +173,8 @@ static struct whole check_whole(const uint8_t *trace, size_t length)
     struct whole whole;
 
     whole.number = pomurica_check(trace, length, whole.report, sizeof whole.report);
-    whole.known = bytes_until_known(whole.number, pomurica_get_word(whole.report, POMURICA_REPORT_PLACE));
+    whole.known = bytes_until_known(is_taken_for_old(trace, length), whole.number,
+                                    pomurica_get_word(whole.report, POMURICA_REPORT_PLACE));
     return whole;
 }
 
@@ -192,15 +196,23 @@ static enum cut cut_of(uint32_t held)
     return held < HEAD_SIZE ? WITHIN_HEAD : held == HEAD_SIZE ? BEHIND_HEAD : WITHIN_BODY;
 }
 
+/* Where the first record begins that begins in a run.  Before its kind has come, a Start may be as large as any. */
+static size_t first_begun(const struct pomurica_session *before)
+{
+    if (before->held == 0)
+        return before->place;
+    return before->place + (before->held < HEAD_SIZE && due_of(before) == DUE_START ? START_SIZE : size_due(before));
+}
+
 /* How the records lie to a run: by the words before it and after it, while no fault is known. */
 static void meet_records(const struct pomurica_session *before, const struct pomurica_session *after)
 {
-    const size_t first = before->place + (before->held == 0 ? 0 : size_due(before)); /* the first that begins in the run */
+    const size_t first = first_begun(before);
 
     met.run[RECORD_ENDED] += before->held != 0 && after->place != before->place;
     met.run[WHOLE_RECORD] += after->place > first;
     met.run[MANY_RECORDS] += after->place >= first + 3 * STEP_SIZE;
-    met.cut[due_of(after)][cut_of(after->held)]++;
+    met.cut[after->stage == POMURICA_STAGE_OLD_NEXT][due_of(after)][cut_of(after->held)]++;
 }
 
 static void meet_run(const struct pomurica_session *before, const struct pair *pair, size_t length, uint32_t number)
@@ -311,24 +323,26 @@ static void compare_random(struct chance *chance, unsigned long count)
     for (unsigned long i = 0; i < count; i++) {
         const enum damage damage = (enum damage)(i % DAMAGES);
         const uint64_t seed = chance->seed;
-        const size_t length = make_trace(chance, damage, trace, &expected);
+        const size_t length = make_either(chance, damage, trace, &expected);
 
         if (!compare_cut(chance, trace, length) && is_telling())
             printf("        %s, %zu bytes, made from seed %" PRIu64 "\n", DAMAGE_NAMES[damage], length, seed);
     }
 }
 
-/* The longest trace there is, and one byte more. */
-static void compare_longest(struct chance *chance)
+/* The longest trace of a layout, and one byte more. */
+static void compare_longest(struct chance *chance, bool old)
 {
-    uint8_t *trace = malloc(POMURICA_LONGEST_TRACE + 1);
+    const size_t longest = old ? POMURICA_OLD_LONGEST_TRACE : POMURICA_LONGEST_TRACE;
+    uint8_t *trace = malloc(longest + 1);
 
     if (!check(trace != NULL, "no memory"))
         return;
-    check(record_trace(chance, POMURICA_MOST_STEPS, trace) == POMURICA_LONGEST_TRACE, "not the longest");
-    trace[POMURICA_LONGEST_TRACE] = 0;
-    compare_cut(chance, trace, POMURICA_LONGEST_TRACE);
-    compare_cut(chance, trace, POMURICA_LONGEST_TRACE + 1);
+    chance->old = old;
+    check(record_trace(chance, POMURICA_MOST_STEPS, trace) == longest, "not the longest");
+    trace[longest] = 0;
+    compare_cut(chance, trace, longest);
+    compare_cut(chance, trace, longest + 1);
     free(trace);
 }
 
@@ -345,10 +359,37 @@ static bool is_not_cleared(const struct pomurica_session *words)
 
 static bool is_odd_head(const struct pomurica_session *words)
 {
-    static const uint32_t HEADS[DUES] = { POMURICA_START_HEAD, POMURICA_STEP_HEAD, POMURICA_END_HEAD };
-
     return words->held >= HEAD_SIZE && words->held < size_due(words) &&
-           pomurica_get_word(words->unfinished, POMURICA_RECORD_HEAD) != HEADS[due_of(words)];
+           pomurica_get_word(words->unfinished, POMURICA_RECORD_HEAD) != head_due(words);
+}
+
+/* The words behind those that a trace of the old layout uses: of the block, and of the room for the record. */
+static uint32_t behind_block(const struct pomurica_session *words)
+{
+    return pomurica_get_word(words->block, POMURICA_OLD_PLACES);
+}
+
+static uint32_t behind_record(const struct pomurica_session *words)
+{
+    return pomurica_get_word(words->unfinished, POMURICA_OLD_STEP_SIZE / sizeof(uint32_t));
+}
+
+/* Whether a session of the old layout has bytes there. */
+static bool has_bytes_behind(const struct pomurica_session *words)
+{
+    return words->stage == POMURICA_STAGE_OLD_NEXT && (behind_block(words) != 0 || behind_record(words) != 0);
+}
+
+/* And whether they stayed, or went. */
+static bool keeps_bytes_behind(const struct pomurica_session *words, const struct pomurica_session *after)
+{
+    return has_bytes_behind(words) && behind_block(after) == behind_block(words) &&
+           behind_record(after) == behind_record(words);
+}
+
+static bool loses_bytes_behind(const struct pomurica_session *words, const struct pomurica_session *after)
+{
+    return has_bytes_behind(words) && behind_block(after) == 0 && behind_record(after) == 0;
 }
 
 /* What the words are before anything is fed; of those that are not closed and have no fault. */
@@ -360,9 +401,10 @@ static void meet_odd(const struct pomurica_session *words)
         return;
     met.odd[ODD_STAGE] += words->stage > POMURICA_STAGE_OVER;
     met.odd[TOO_MUCH_HELD] += due_of(words) != DUE_NONE && words->held >= size_due(words);
-    met.odd[FEWER_THAN_FOUND] += words->stage == POMURICA_STAGE_NEXT && words->count < words->steps;
+    met.odd[FEWER_THAN_FOUND] += due_of(words) == DUE_END && words->count < words->steps;
     met.odd[ODD_HEAD] += is_odd_head(words);
     met.odd[NOT_CLEARED] += is_not_cleared(words);
+    met.odd[BEHIND_OLD] += has_bytes_behind(words);
 }
 
 /* A number by which to count; a fault that nobody gave may be any. */
@@ -377,6 +419,8 @@ static void meet_odd_closing(const struct pomurica_session *words, const struct 
     const struct pomurica_session after = words_of(&pair->ours);
 
     met.odd_closed[counted_as(pair->closing.number)]++;
+    met.odd[OLD_WENT_ON] += keeps_bytes_behind(words, &after) && after.place != words->place;
+    met.odd[OLD_FAILED] += loses_bytes_behind(words, &after) && after.fault != words->fault;
     met.odd[WRAPPED] += after.place < words->place;
     met.odd[WENT_ON] += after.place != words->place;
     met.odd[ENDED] += pair->closing.number == POMURICA_DONE;
@@ -446,16 +490,19 @@ static void show_numbers(const char *feeding, const unsigned long *fed, const ch
         show(closing, pomurica_number_name(CLOSED[i]), closed[CLOSED[i]], seldom);
 }
 
-/* Behind the End there is no record that could be cut. */
+/* Behind the End there is no record that could be cut; a Start's layout is not in the stage. */
 static void show_cuts(unsigned long seldom)
 {
-    static const char *const DUE_NAMES[DUES] = { "Start", "Step", "End", "behind the End" };
+    static const char *const DUE_NAMES[2][DUES] = {
+        { "Start", "Step", "End", "behind the End" }, { "", "old Step", "End, old trace", "" },
+    };
     static const char *const CUT_NAMES[CUTS] = { "run ends before it", "in its head", "right behind its head", "in its body" };
 
-    for (uint32_t due = 0; due < DUE_NONE; due++)
-        for (uint32_t cut = 0; cut < CUTS; cut++)
-            show(DUE_NAMES[due], CUT_NAMES[cut], met.cut[due][cut], seldom);
-    show(DUE_NAMES[DUE_NONE], CUT_NAMES[BEFORE_RECORD], met.cut[DUE_NONE][BEFORE_RECORD], seldom);
+    for (uint32_t old = 0; old <= 1; old++)
+        for (uint32_t due = old ? DUE_STEP : DUE_START; due < DUE_NONE; due++)
+            for (uint32_t cut = 0; cut < CUTS; cut++)
+                show(DUE_NAMES[old][due], CUT_NAMES[cut], met.cut[old][due][cut], seldom);
+    show(DUE_NAMES[0][DUE_NONE], CUT_NAMES[BEFORE_RECORD], met.cut[0][DUE_NONE][BEFORE_RECORD], seldom);
 }
 
 static void show_met(unsigned long thousands)
@@ -474,7 +521,7 @@ static void show_met(unsigned long thousands)
 int main(int argc, char **argv)
 {
     const unsigned long thousands = argc > 1 ? strtoul(argv[1], NULL, 10) : THOUSANDS;
-    struct chance chance = { argc > 2 ? strtoull(argv[2], NULL, 10) : SEED };
+    struct chance chance = { .seed = argc > 2 ? strtoull(argv[2], NULL, 10) : SEED };
 
     open_edge(POMURICA_LONGEST_TRACE + 1);
     printf("%lu thousand cuts, seed %" PRIu64 "\n", thousands, chance.seed);
@@ -485,6 +532,8 @@ int main(int argc, char **argv)
     group("everything met often enough");
     show_met(thousands);
     group("the longest trace, cut by chance, side by side");
-    compare_longest(&chance);
+    compare_longest(&chance, false);
+    group("the longest trace of the old layout, cut by chance, side by side");
+    compare_longest(&chance, true);
     return summary();
 }

@@ -1,13 +1,13 @@
 /*
  * The checker behind the header against another, on traces of chance, honest
- * and damaged: number, place, Steps, guard bytes, and a trace that stays as it
- * was.
+ * and damaged, of both layouts: number, place, Steps, guard bytes, and a trace
+ * that stays as it was.
  *
  *     compare_traces [THOUSANDS SEED]
  *
  * The other is the second implementation's, unless OTHER_CHECK says otherwise.
  * Prints how often each number was given, and each answer of an accepted Step,
- * and fails where one was too seldom.
+ * by layout, and fails where one was too seldom.
  */
 #include "case_l.h"
 #include "chance.h"
@@ -38,17 +38,21 @@ check_function OTHER_CHECK;
 #define THOUSANDS 40
 #define SEED 1
 
-/* How often each number is given in a thousand traces, at least; and how often each answer stands in an accepted Step. */
-#define SELDOM 25
-#define SELDOM_ANSWER 10
+/*
+ * How often each number is given in a thousand traces, at least; how often each answer stands in an accepted Step, and
+ * what only the new layout knows: done there, and refused in the old one.
+ */
+#define SELDOM 10
+#define SELDOM_ANSWER 3
+#define SELDOM_NEW 1
 
 #define NUMBERS (TRAILING + 1)
 
-/* How often each number was given, by damage. */
-static unsigned long met[DAMAGES][NUMBERS];
+/* How often each number was given, by layout and damage; a trace is of the new one if it opens with its kind. */
+static unsigned long met[LAYOUTS][DAMAGES][NUMBERS];
 
-/* How often each answer stood in a Step of an accepted trace. */
-static unsigned long met_answer[STEP_NUMBERS];
+/* How often each answer stood in an accepted Step; and, by whether it was done, a debug abort and a note on HDCR. */
+static unsigned long met_answer[LAYOUTS][STEP_NUMBERS], met_debug[LAYOUTS][2], met_note[LAYOUTS][2];
 
 /* One call of a checker, and what came of it. */
 struct call {
@@ -111,11 +115,13 @@ static bool compare(const uint8_t *trace, size_t length, const struct expected *
                  expected->number, expected->place, expected->steps);
 }
 
-/* Worked case l, side by side. */
+/* Worked case l, side by side, and the same in the new layout. */
 static void compare_case_l(void)
 {
     struct call ours;
 
+    compare(OLD_SHORTEST, OLD_SHORTEST_SIZE, &(struct expected){ true, DONE, OLD_SHORTEST_SIZE, 0 }, &ours);
+    compare(OLD_SHORTEST, OLD_SHORTEST_SIZE - 1, &(struct expected){ true, SHORT, OLD_SHORTEST_END, 0 }, &ours);
     compare(SHORTEST, SHORTEST_SIZE, &(struct expected){ true, DONE, SHORTEST_SIZE, 0 }, &ours);
     compare(SHORTEST, SHORTEST_SIZE - 1, &(struct expected){ true, SHORT, SHORTEST_END, 0 }, &ours);
     compare(SHORTEST, 0, &(struct expected){ true, SHORT, 0, 0 }, &ours);
@@ -128,7 +134,7 @@ static void compare_sizes(struct chance *chance, uint8_t *trace)
     struct call ours;
 
     for (size_t report_len = 0; report_len <= LONGEST_TRIED; report_len++) {
-        const size_t length = make_trace(chance, HONEST, trace, &expected);
+        const size_t length = make_either(chance, HONEST, trace, &expected);
 
         agree(trace, length, report_len, &ours);
         if (report_len != REPORT_SIZE)
@@ -137,16 +143,17 @@ static void compare_sizes(struct chance *chance, uint8_t *trace)
     }
 }
 
-/* The longest trace there is, and what can be wrong at its end. */
-static void compare_longest(struct chance *chance)
+/* The longest trace of a layout, and what can be wrong at its end. */
+static void compare_longest(struct chance *chance, bool old)
 {
-    const uint32_t longest = POMURICA_LONGEST_TRACE;
-    const uint32_t end = longest - POMURICA_END_SIZE, last = end - POMURICA_STEP_SIZE;
+    const uint32_t longest = old ? POMURICA_OLD_LONGEST_TRACE : POMURICA_LONGEST_TRACE;
+    const uint32_t end = longest - POMURICA_END_SIZE, last = end - step_size(old);
     uint8_t *trace = malloc(longest + 1);
     struct call ours;
 
     if (!check(trace != NULL, "no memory"))
         return;
+    chance->old = old;
     check(record_trace(chance, POMURICA_MOST_STEPS, trace) == longest, "not the longest");
     trace[longest] = 0;
     compare(trace, longest, &(struct expected){ true, DONE, longest, 65535 }, &ours);
@@ -157,10 +164,28 @@ static void compare_longest(struct chance *chance)
     free(trace);
 }
 
+static enum layout layout_of(const uint8_t *trace, size_t length)
+{
+    return is_taken_for_old(trace, length) ? OLD_LAYOUT : NEW_LAYOUT;
+}
+
+static void meet_step(enum layout layout, const uint8_t *step)
+{
+    const uint32_t code = get_word(step + STEP_CODE), a = get_word(step + STEP_A);
+    const uint32_t number = get_word(step + STEP_ANSWER);
+
+    met_answer[layout][number]++;
+    met_debug[layout][number == DONE] += code == CODE_PREFETCH_ABORT && a == ABORT_DEBUG;
+    met_note[layout][number == DONE] += code == CODE_NOTE && a == HDCR;
+}
+
 static void meet_answers(const uint8_t *trace, size_t length)
 {
-    for (const uint8_t *step = trace + START_SIZE; step < trace + length - END_SIZE; step += STEP_SIZE)
-        met_answer[get_word(step + STEP_ANSWER)]++;
+    const bool old = is_old(trace);
+    const uint8_t *const end = trace + length - END_SIZE;
+
+    for (const uint8_t *step = trace + start_size(old); step < end; step += step_size(old))
+        meet_step(layout_of(trace, length), step);
 }
 
 static void compare_random(struct chance *chance, unsigned long count, uint8_t *trace)
@@ -171,10 +196,10 @@ static void compare_random(struct chance *chance, unsigned long count, uint8_t *
     for (unsigned long i = 0; i < count; i++) {
         const enum damage damage = (enum damage)(i % DAMAGES);
         const uint64_t seed = chance->seed;
-        const size_t length = make_trace(chance, damage, trace, &expected);
+        const size_t length = make_either(chance, damage, trace, &expected);
 
         if (compare(trace, length, &expected, &ours)) {
-            met[damage][ours.number]++;
+            met[layout_of(trace, length)][damage][ours.number]++;
             if (ours.number == DONE)
                 meet_answers(trace, length);
         } else if (is_telling()) {
@@ -184,61 +209,85 @@ static void compare_random(struct chance *chance, unsigned long count, uint8_t *
     }
 }
 
-static void show(unsigned long seldom)
+static void show(enum layout layout, unsigned long seldom)
 {
     static const uint32_t GIVEN[] = { DONE, SHORT, BAD_RECORD, BAD_COUNT, WRONG_STEP, TRAILING };
     const size_t given_count = sizeof GIVEN / sizeof GIVEN[0];
 
-    printf("  %-36s", "");
+    printf("  %-36s", layout_name(layout == OLD_LAYOUT));
     for (size_t i = 0; i < given_count; i++)
         printf(" %10s", pomurica_number_name(GIVEN[i]));
     printf("\n");
     for (uint32_t damage = 0; damage < DAMAGES; damage++) {
         printf("  %-36s", DAMAGE_NAMES[damage]);
         for (size_t i = 0; i < given_count; i++)
-            printf(" %10lu", met[damage][GIVEN[i]]);
+            printf(" %10lu", met[layout][damage][GIVEN[i]]);
         printf("\n");
     }
     for (size_t i = 0; i < given_count; i++) {
         unsigned long times = 0;
 
         for (uint32_t damage = 0; damage < DAMAGES; damage++)
-            times += met[damage][GIVEN[i]];
-        check(times >= seldom, "%s: given %lu times", pomurica_number_name(GIVEN[i]), times);
+            times += met[layout][damage][GIVEN[i]];
+        check(times >= seldom, "%s, %s: given %lu times", layout_name(layout == OLD_LAYOUT),
+              pomurica_number_name(GIVEN[i]), times);
     }
 }
 
-static void show_answers(unsigned long seldom)
+static void show_answers(enum layout layout, unsigned long seldom)
 {
     for (uint32_t number = 0; number < STEP_NUMBERS; number++) {
+        const unsigned long times = met_answer[layout][number];
         const char *const name = pomurica_number_name(number);
 
         if (!is_of_step(number) || number == BAD_SIZE) {
-            check(met_answer[number] == 0, "a Step with %s: accepted %lu times", name, met_answer[number]);
+            check(times == 0, "a Step with %s: accepted %lu times", name, times);
             continue;
         }
-        printf("  a Step with %-24s %10lu\n", name, met_answer[number]);
-        check(met_answer[number] >= seldom, "a Step with %s: accepted %lu times", name, met_answer[number]);
+        printf("  a Step with %-24s %10lu\n", name, times);
+        check(times >= seldom, "%s, a Step with %s: accepted %lu times", layout_name(layout == OLD_LAYOUT), name,
+              times);
     }
+}
+
+/* What only the new layout knows: done there, from a good block; refused in the old one, and never done. */
+static void show_new(const char *what, unsigned long (*times)[2], unsigned long seldom)
+{
+    printf("  %-36s %10lu %10lu\n", what, times[NEW_LAYOUT][true], times[OLD_LAYOUT][false]);
+    check(times[NEW_LAYOUT][true] >= seldom && times[OLD_LAYOUT][false] >= seldom && times[OLD_LAYOUT][true] == 0,
+          "%s: done %lu times, in the old layout refused %lu times and done %lu", what, times[NEW_LAYOUT][true],
+          times[OLD_LAYOUT][false], times[OLD_LAYOUT][true]);
+}
+
+static void show_met(unsigned long thousands)
+{
+    for (uint32_t layout = 0; layout < LAYOUTS; layout++) {
+        show((enum layout)layout, SELDOM * thousands);
+        show_answers((enum layout)layout, SELDOM_ANSWER * thousands);
+    }
+    printf("  %-36s %10s %10s\n", "", "new, done", "old");
+    show_new("debug abort", met_debug, SELDOM_NEW * thousands);
+    show_new("note on HDCR", met_note, SELDOM_NEW * thousands);
 }
 
 int main(int argc, char **argv)
 {
     const unsigned long thousands = argc > 1 ? strtoul(argv[1], NULL, 10) : THOUSANDS;
-    struct chance chance = { argc > 2 ? strtoull(argv[2], NULL, 10) : SEED };
+    struct chance chance = { .seed = argc > 2 ? strtoull(argv[2], NULL, 10) : SEED };
     static uint8_t trace[MADE_SIZE];
 
     open_edge(POMURICA_LONGEST_TRACE + 1);
     printf("%lu thousand traces, seed %" PRIu64 "\n", thousands, chance.seed);
     group("worked case l, side by side");
     compare_case_l();
-    group("a report of every size from 0 to 200");
+    group("a report of every size from 0 to 210");
     compare_sizes(&chance, trace);
     group("traces of chance, side by side, of every kind");
     compare_random(&chance, thousands * 1000, trace);
-    show(SELDOM * thousands);
-    show_answers(SELDOM_ANSWER * thousands);
+    show_met(thousands);
     group("the longest trace, side by side");
-    compare_longest(&chance);
+    compare_longest(&chance, false);
+    group("the longest trace of the old layout, side by side");
+    compare_longest(&chance, true);
     return summary();
 }

@@ -19,7 +19,8 @@ sys.dont_write_bytecode = True
 from names import shown  # noqa: E402
 from page import Page  # noqa: E402
 from records import (  # noqa: E402
-    BLOCK_SIZE, END_SIZE, SAMPLES, SHORTEST, START_SIZE, STEP_KIND, STEP_NUMBER, STEP_SIZE, accepted, long_trace, start_record)
+    BLOCK_SIZE, END_SIZE, NEW, OLD, OLD_SHORTEST, SAMPLES, SHORTEST, START_SIZE, STEP_NUMBER, STEP_SIZE, accepted,
+    long_trace, start_record)
 from runs import Runs, on_terminal, read, write  # noqa: E402
 from status import differing_fields  # noqa: E402
 
@@ -39,6 +40,7 @@ def try_verdicts():
     good_line, cut_line = b'good: accepted, 0 Steps\n', b'cut: refused 8 SHORT at byte %d after 0 Steps\n' % START_SIZE
     missing = b'console: missing: No such file or directory\n'
     expect_run('accepted', [good], 0, good_line)
+    expect_run('accepted, of the old layout', [write('old', OLD_SHORTEST)], 0, b'old: accepted, 0 Steps\n')
     expect_run('refused', [cut], 1, cut_line)
     expect_run('one refused of two', [cut, good], 1, cut_line + good_line)
     expect_run('a file that is not there; the others are judged, and 2 wins', [cut, 'missing', good], 2,
@@ -69,7 +71,8 @@ def try_input():
     expect_run('an empty device', ['/dev/null'], 1, b'/dev/null: refused 8 SHORT at byte 0 after 0 Steps\n')
     expect_run('a device without end, into which --explain looks', ['--explain', '/dev/zero'], 1,
                b'/dev/zero: refused 9 BAD_RECORD at byte 0 after 0 Steps\n'
-               b'  the Start was due, of length 184 and kind 1; length 0 and kind 0 are there\n')
+               b'  the Start was due, of length 188 and kind 4, or of 184 and 1 in the old layout; '
+               b'length 0 and kind 0 are there\n')
     expect_run('a file that fails while it is read', ['/proc/self/mem'], 2, b'', b'console: /proc/self/mem: ')
     with open(write('huge', SHORTEST), 'r+b') as file:
         file.truncate(400 << 20)
@@ -93,7 +96,7 @@ def try_output():
 def try_memory():
     def limit():
         resource.setrlimit(resource.RLIMIT_AS, (12 << 20, 12 << 20))
-    expect_run('no memory for a whole trace', ['--explain', 'good'], 2, b'', b'console: no memory for 13107193 bytes\n',
+    expect_run('no memory for a whole trace', ['--explain', 'good'], 2, b'', b'console: no memory for 13369337 bytes\n',
                preexec_fn=limit)
     expect_run('and none is needed for one that is judged', ['huge'], 1,
                b'huge: refused 12 TRAILING at byte %d after 0 Steps\n' % len(SHORTEST), preexec_fn=limit)
@@ -127,6 +130,62 @@ def try_telling():
                b'  the End of %d bytes was due; only %d are there\n' % (WARNING, START_SIZE, END_SIZE, END_SIZE - 1))
     expect_run('--explain --quiet', ['--explain', '--trace', '--quiet', 'cut'], 1, b'')
     expect_run('--trace', ['--trace', 'good'], 0, b'good: accepted, 0 Steps\n')
+
+
+# Beginnings of a trace, and what was due: by the kind of the Start, or either layout's where it does not tell.
+NEITHER = 'or of 184 and 1 in the old layout; '
+DUE = {
+    b'': 'SHORT: the Start of 188 bytes was due, or of 184 in the old layout; only 0 are there',
+    b'\xbc\0\4': 'SHORT: the Start of 188 bytes was due, or of 184 in the old layout; only 3 are there',
+    b'\xbc\0\4\0': 'SHORT: the Start of 188 bytes was due; only 4 are there',
+    b'\xb8\0\1\0': 'SHORT: the Start of 184 bytes was due; only 4 are there',
+    b'\xb8\0\4\0': 'BAD_RECORD: the Start was due, of length 188 and kind 4; length 184 and kind 4 are there',
+    b'\xbc\0\1\0': 'BAD_RECORD: the Start was due, of length 184 and kind 1; length 188 and kind 1 are there',
+    b'\xcc\0\5\0': f'BAD_RECORD: the Start was due, of length 188 and kind 4, {NEITHER}length 204 and kind 5 are there',
+    b'\xc8\0\2\0': f'BAD_RECORD: the Start was due, of length 188 and kind 4, {NEITHER}length 200 and kind 2 are there',
+    SHORTEST[:-8]: 'SHORT: the End of 8 bytes was due; only 0 are there',
+    OLD_SHORTEST[:-8]: 'SHORT: the End of 8 bytes was due; only 0 are there',
+    SHORTEST[:-8] + b'\xcc\0\5\0':
+        'BAD_RECORD: the End was due, of length 8 and kind 3; length 204 and kind 5 are there',
+    SHORTEST[:-8] + b'\xc8\0\2\0':
+        'BAD_RECORD: the End was due, of length 8 and kind 3; length 200 and kind 2 are there, '
+        'a Step of the old layout behind a Start of the new one',
+    start_record(1) + b'\xc8\0\2\0':
+        'BAD_RECORD: a Step was due, of length 204 and kind 5; length 200 and kind 2 are there, '
+        'a Step of the old layout behind a Start of the new one',
+    start_record(1, bytes(OLD.block_size), OLD) + b'\xcc\0\5\0':
+        'BAD_RECORD: a Step was due, of length 200 and kind 2; length 204 and kind 5 are there, '
+        'a Step of the new layout behind a Start of the old one',
+}
+
+
+def try_due():
+    for content, due in DUE.items():
+        name, told = due.split(': ', 1)
+        status, out, err = run('--explain', write('begun', content))
+        line, *under = out.decode().splitlines()
+        expect(f'due: {told}', (status, under, err) == (1, [f'  {told}'], b'') and f' {name} at byte ' in line,
+               (line, under))
+        expect_page('its page', page_of('begun'), told, steps=0)
+
+
+def try_layouts():
+    """What only the new layout knows, in lines and on the page; and the same in the old one."""
+    for name, due in {'debug': (4, 2), 'debug-in-old': (0, 0), 'honest-old': (0, 0)}.items():
+        out = run('--trace', os.path.join(SAMPLES, f'{name}.trace'))[1].decode()
+        seen = out.count('debug Prefetch Abort'), out.count('note: HDCR becomes')
+        expect(f'--trace {name}: debug aborts and notes of HDCR', seen == due, out)
+    out = run('--trace', os.path.join(SAMPLES, 'debug-in-old.trace'))[1].decode()
+    refused = re.findall(r': ([^:;]*);[^;]*; (refused .*)', out)
+    expect('refused in the old one', refused == [
+        (event, 'refused with 4 BAD_EVENT (not known in the old layout)') for event in
+        ('Prefetch Abort, A 4, above 3', 'note of 0x00000000, A 44, above 43')], refused)
+    new, old = (run('--explain', '--trace', os.path.join(SAMPLES, name))[1].decode().splitlines()[1:] for name in
+                ('honest.trace', 'honest-old.trace'))
+    places = [re.search(r'at byte (\d+): (.*)', line).groups() for lines in (new, old) for line in lines]
+    expect('an old trace is told as a new one, but for where its Steps stand', [told for _, told in places[:9]] ==
+           [told for _, told in places[9:]] and [int(at) for at, _ in places] ==
+           [form.start_size + form.step_size * i for form in (NEW, OLD) for i in range(9)], places)
 
 
 def due_lines():
@@ -190,8 +249,8 @@ def try_disabled():
     trace = bytearray(read(os.path.join(SAMPLES, 'disabled-calls.trace')))
     trace[START_SIZE + STEP_NUMBER] = 5
     expect_run('shown as refused for another reason', ['--explain', write('not-here', trace)], 1,
-               b'not-here: refused 11 WRONG_STEP at byte 184 after 0 Steps\n'
-               b'  Step 1 at byte 184: HVC\n  it was in Non-secure Supervisor, nothing masked\n'
+               b'not-here: refused 11 WRONG_STEP at byte 188 after 0 Steps\n'
+               b'  Step 1 at byte 188: HVC\n  it was in Non-secure Supervisor, nothing masked\n'
                b'  the rules give: refused with 16 DISABLED (HVC is disabled: SCR.HCE is 0)\n'
                b'    answer number 0x00000010 due, 0x00000005 found\n')
     expect_page('the page of it', page_of('not-here'), hvc, smc, steps=5, wrong=['1'])
@@ -228,8 +287,8 @@ def try_returns():
     former = honest[:answer] + struct.pack('<II', 4, 0) + honest[block - STEP_SIZE:block - STEP_SIZE + BLOCK_SIZE] + \
         honest[block + BLOCK_SIZE:]
     expect_run('shown as refused, as before No. 9', ['--explain', write('former', former)], 1,
-               b'former: refused 11 WRONG_STEP at byte 384 after 1 Steps\n'
-               b'  Step 2 at byte 384: exception return\n  it was in Non-secure Supervisor, masked I\n'
+               b'former: refused 11 WRONG_STEP at byte 392 after 1 Steps\n'
+               b'  Step 2 at byte 392: exception return\n  it was in Non-secure Supervisor, masked I\n'
                b'  the rules give: returns to Non-secure User at 0x00008004\n'
                b'    answer number 0x00000000 due, 0x00000004 found\n'
                b'    CPSR 0x00000010 due, 0x00000093 found: I set, due clear; mode Supervisor, due User\n'
@@ -309,26 +368,33 @@ def try_pages():
     expect_page('the page of a text', page_of('text'), 'the Start was due', steps=0)
 
 
-def limit_steps():
+def limit_steps(form):
     """Steps of every code and of none, with operands, answer numbers and values at their limits and right behind them."""
     for code, a, (number, value) in itertools.product(
-            range(15), (2, 3, 4, 8, 9, 31, 32, 43, 44, 63, 64), ((0, 6 << 16), (0, 7 << 16), (14, 0), (15, 0), (16, 0), (17, 0))):
-        yield struct.pack('<HHIIIII', STEP_SIZE, STEP_KIND, code, a, 0, number, value) + bytes(BLOCK_SIZE)
+            range(15), (2, 3, 4, 5, 8, 9, 31, 32, 43, 44, 45, 63, 64),
+            ((0, 6 << 16), (0, 7 << 16), (4, 0), (14, 0), (15, 0), (16, 0), (17, 0))):
+        words = struct.pack('<HHIIIII', form.step_size, form.step_kind, code, a, 0, number, value)
+        yield words + bytes(form.block_size)
 
 
-def try_unjudged():
+def try_unjudged(form=NEW):
     """Steps behind a wrong one are shown as far as they go."""
-    step = (struct.pack('<HH', STEP_SIZE, STEP_KIND) + b'"><script>&' * 20)[:STEP_SIZE]
-    start = (b'</pre><b>' * 20)[:BLOCK_SIZE]
-    write('text', start_record(9, start) + 4 * step + STEP_SIZE * b'<')
+    step = (struct.pack('<HH', form.step_size, form.step_kind) + b'"><script>&' * 20)[:form.step_size]
+    start = (b'</pre><b>' * 20)[:form.block_size]
+    write('text', start_record(9, start, form) + 4 * step + form.step_size * b'<')
     expect_page('text in the form of a trace', page_of('text'), steps=4, wrong=['1'])
-    write('text', start_record(9, start) + 4 * step + step[:-1])
+    write('text', start_record(9, start, form) + 4 * step + step[:-1])
     expect_page('the same, cut', page_of('text'), steps=4, wrong=['1'])
-    write('text', start_record(3, start) + 4 * step)
+    write('text', start_record(3, start, form) + 4 * step)
     expect_page('the same, with more Steps than it counts', page_of('text'), steps=3, wrong=['1'])
-    limits = list(limit_steps())
-    write('limits', start_record(1 + len(limits), start) + step + b''.join(limits))
+    limits = list(limit_steps(form))
+    write('limits', start_record(1 + len(limits), start, form) + step + b''.join(limits))
     expect_page('Steps at the limits of what they may have', page_of('limits'), steps=1 + len(limits), wrong=['1'])
+    if form is NEW:
+        other = next(limit_steps(OLD))
+        write('mixed', start_record(9, start) + 4 * step + other + 4 * step)
+        expect_page('and not beyond a Step of the other layout', page_of('mixed'), steps=4, wrong=['1'])
+        try_unjudged(OLD)
 
 
 def try_long_pages():
@@ -347,7 +413,10 @@ def try_long_pages():
     expect_page('a page of 65,535 Steps with a wrong one', page_of('long'), 'Steps 1 to 39,000 are not listed.',
                 'Steps 41,001 to 65,535 are not listed.', 'Step 40,000 WRONG', steps=2000, wrong=['40000'])
     write('long', long_trace(65535)[:-1])
-    expect_page('a page of 65,535 Steps, cut', page_of('long'), 'stops here: 8 SHORT at byte 13107184')
+    expect_page('a page of 65,535 Steps, cut', page_of('long'), 'stops here: 8 SHORT at byte 13369328')
+    write('long', long_trace(65535, 40000, OLD))
+    expect_page('the same of the old layout with a wrong one', page_of('long'), 'Step 40,000 WRONG', steps=2000,
+                wrong=['40000'])
 
 
 # Names that would forge a line, order the terminal about or turn the verdict round, names of signs that a page is made of,
@@ -411,6 +480,8 @@ with tempfile.TemporaryDirectory() as room:
     try_folder()
     try_flips()
     try_pages()
+    try_due()
+    try_layouts()
     try_disabled()
     try_returns()
     try_readme()

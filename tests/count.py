@@ -22,7 +22,7 @@ import termios
 import time
 
 sys.dont_write_bytecode = True
-from records import END_SIZE, SAMPLES, SHORTEST, START_SIZE, STEP_EVENT, STEP_NUMBER, STEP_SIZE, long_trace  # noqa: E402
+from records import OLD, SAMPLES, SHORTEST, STEP_EVENT, STEP_NUMBER, long_trace, step_places  # noqa: E402
 from runs import Runs, on_terminal, read, write  # noqa: E402
 
 KIND, FOLDER, LINES, COMMAND = sys.argv[1], os.path.abspath(sys.argv[2]), os.path.abspath(sys.argv[3]), sys.argv[4:]
@@ -35,7 +35,7 @@ os.environ['LC_ALL'] = 'C'
 INTERRUPT_CHECK, LAST_CODE, LAST_ENTERING = 9, 13, 8
 MOST = 2**32 - 1
 HONEST, REFUSED_EVENT, STALE = (os.path.join(SAMPLES, f'{name}.trace') for name in ('honest', 'refused-event', 'stale-spsr'))
-STALE_LINE = f'{STALE}: refused 11 WRONG_STEP at byte 1384 after 6 Steps\n'.encode()
+STALE_LINE = f'{STALE}: refused 11 WRONG_STEP at byte 1412 after 6 Steps\n'.encode()
 
 
 def words(trace, at, count):
@@ -58,7 +58,7 @@ def count(*names):
     counts = {}
     for name in names:
         trace = read(name)
-        for step in range(START_SIZE, len(trace) - END_SIZE, STEP_SIZE):
+        for step in step_places(trace):
             count_step(counts, *words(trace, step + STEP_EVENT, 1), *words(trace, step + STEP_NUMBER, 2))
     return counts
 
@@ -89,7 +89,7 @@ def try_counts():
     status, out, err = run('--count', *every)
     expect(f'{len(names)} accepted of {len(every)} traces: {len(counts)} counts', (status, out) == (1, lines_of(counts)), out)
     expect('and the refused are told, each with its line', err == refused, err[:200])
-    steps = sum((os.path.getsize(name) - START_SIZE - END_SIZE) // STEP_SIZE for name in names)
+    steps = sum(len(step_places(read(name))) for name in names)
     of_group = [sum(value for (key, _), value in counts.items() if key == group) for group in (1, 2)]
     expect(f'by code and by answer they add up to all {steps} Steps', of_group == [steps, steps], of_group)
 
@@ -106,7 +106,8 @@ def try_statuses():
     expect_run('a directory', ['--count', '.', HONEST], 2, honest, b'console: .: Is a directory\n')
     expect_run('standard input', ['--count', '-'], 0, honest, stdin=None, input=read(HONEST))
     expect_run('--quiet: no count, and the refused are told', ['--count', '--quiet', HONEST, STALE], 1, b'', STALE_LINE)
-    expect_run('the longest trace', ['--count', write('long', long_trace(65535))], 0, lines_of(count('long')))
+    for name, long in {'': long_trace(65535), ' of the old layout': long_trace(65535, form=OLD)}.items():
+        expect_run(f'the longest trace{name}', ['--count', write('long', long)], 0, lines_of(count('long')))
     os.remove('long')
     with open('/dev/full', 'wb') as full:
         expect_run('counts that cannot be written', ['--count', HONEST], 2, None, b'console: standard output: No space left',

@@ -40,15 +40,24 @@ void any_counts(struct chance *chance, uint8_t *counts)
         put_word(counts + i, any_count(chance, kind));
 }
 
-/* Half of them short, of Steps from a block of chance and not from where entries lead in the end. */
-size_t any_counted_trace(struct chance *chance, uint8_t *trace, struct expected *expected)
+/* Short, of Steps from a block of chance and not from where entries lead in the end. */
+static size_t any_short_trace(struct chance *chance, uint8_t *trace)
 {
     const uint32_t n = any_below(chance, FEW + 1);
+    size_t length;
 
+    choose_layout(chance);
+    length = one_in(chance, 2) ? record_trace(chance, n, trace) : record_checks(chance, n, trace);
+    leave_layout(chance);
+    return length;
+}
+
+size_t any_counted_trace(struct chance *chance, uint8_t *trace, struct expected *expected)
+{
     if (one_in(chance, 2))
-        return make_trace(chance, (enum damage)any_below(chance, DAMAGES), trace, expected);
+        return make_either(chance, (enum damage)any_below(chance, DAMAGES), trace, expected);
     *expected = (struct expected){ .known = true, .number = DONE };
-    return one_in(chance, 2) ? record_trace(chance, n, trace) : record_checks(chance, n, trace);
+    return any_short_trace(chance, trace);
 }
 
 static size_t any_size(struct chance *chance, uint32_t size)

@@ -36,7 +36,7 @@ struct sizes {
 /* LENT_MOST bytes that begin with counts: none, any, some of them almost full, or all. */
 void any_counts(struct chance *chance, uint8_t *counts);
 
-/* A trace to count, of at most MADE_SIZE bytes; gives its length. */
+/* A trace to count, of either layout and of at most MADE_SIZE bytes; gives its length. */
 size_t any_counted_trace(struct chance *chance, uint8_t *trace, struct expected *expected);
 
 /* The size of counts; one time in 64 any size, up to twice as large. */

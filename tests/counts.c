@@ -1,13 +1,17 @@
 /*
- * The counts of the archive, called from C: a trace that has every class there
- * is, counted onto nothing, onto other counts and onto counts that are almost
- * full; each refusal; and the lines of counts, in rooms of every kind.  Each
- * buffer is also lent with wrong sizes.
+ * The counts of the archive, called from C, of traces of both layouts: a trace
+ * that has every class there is, counted onto nothing, onto other counts and onto
+ * counts that are almost full; each refusal; and the lines of counts, in rooms of
+ * every kind.  Each buffer is also lent with wrong sizes.
  */
+#include "case_l.h"
 #include "edge.h"
 #include "group.h"
 #include "lent.h"
 #include "pomurica.h"
+#include "traces.h"
+
+#include "../host/record.h"
 
 #include <inttypes.h>
 #include <stdio.h>
@@ -23,10 +27,6 @@ enum {
 
 /* Under these a virtual SError is pending, and the lines of virtual interrupts count. */
 #define VIRTUAL (POMURICA_HCR_AMO | POMURICA_HCR_IMO | POMURICA_HCR_FMO | POMURICA_HCR_VA)
-
-struct event {
-    uint32_t code, a, b;
-};
 
 /* From Non-secure User: every code, answer, target and interrupt that the rules can bring about. */
 static const struct event EVENTS[] = {
@@ -75,68 +75,85 @@ static const struct event EVENTS[] = {
     { POMURICA_EVENT_NOTE, POMURICA_PLACE_SPSR_SVC, POMURICA_MODE_HYP },
     { POMURICA_EVENT_RETURN, 0, 0 },                                     /* illegal, and done */
     { POMURICA_EVENT_RETURN, 5, 0 },                                     /* BAD_EVENT, of a known code */
+    { POMURICA_EVENT_NOTE, POMURICA_PLACE_HDCR, POMURICA_HDCR_TDE },     /* in the old layout BAD_EVENT, both */
+    { POMURICA_EVENT_PREFETCH_ABORT, POMURICA_ABORT_DEBUG, 0 },          /* enters Hyp */
 };
 
-/* What they come to. */
+/* What they come to, in the new layout and in the old one. */
 static const struct class {
-    uint32_t group, number, count;
+    uint32_t group, number, count[2];
 } CLASSES[] = {
-    { POMURICA_GROUP_CODE, 0, 4 },
-    { POMURICA_GROUP_CODE, POMURICA_EVENT_UNDEFINED, 1 },
-    { POMURICA_GROUP_CODE, POMURICA_EVENT_SVC, 2 },
-    { POMURICA_GROUP_CODE, POMURICA_EVENT_SMC, 2 },
-    { POMURICA_GROUP_CODE, POMURICA_EVENT_HVC, 2 },
-    { POMURICA_GROUP_CODE, POMURICA_EVENT_PREFETCH_ABORT, 1 },
-    { POMURICA_GROUP_CODE, POMURICA_EVENT_DATA_ABORT, 1 },
-    { POMURICA_GROUP_CODE, POMURICA_EVENT_HYP_TRAP, 1 },
-    { POMURICA_GROUP_CODE, POMURICA_EVENT_MONITOR_TRAP, 1 },
-    { POMURICA_GROUP_CODE, POMURICA_EVENT_INTERRUPT_CHECK, 9 },
-    { POMURICA_GROUP_CODE, POMURICA_EVENT_BANKED_READ, 4 },
-    { POMURICA_GROUP_CODE, POMURICA_EVENT_BANKED_WRITE, 1 },
-    { POMURICA_GROUP_CODE, POMURICA_EVENT_NOTE, 13 },
-    { POMURICA_GROUP_CODE, POMURICA_EVENT_RETURN, 3 },
-    { POMURICA_GROUP_ANSWER, POMURICA_DONE, 30 },
-    { POMURICA_GROUP_ANSWER, POMURICA_BAD_MODE, 1 },
-    { POMURICA_GROUP_ANSWER, POMURICA_BAD_STATE, 1 },
-    { POMURICA_GROUP_ANSWER, POMURICA_BAD_EVENT, 7 },
-    { POMURICA_GROUP_ANSWER, POMURICA_NOT_HERE, 1 },
-    { POMURICA_GROUP_ANSWER, POMURICA_NO_REGISTER, 1 },
-    { POMURICA_GROUP_ANSWER, POMURICA_NO_RIGHT, 1 },
-    { POMURICA_GROUP_ANSWER, POMURICA_DISABLED, 2 },
-    { POMURICA_GROUP_ANSWER, POMURICA_OWN_REGISTER, 1 },
-    { POMURICA_GROUP_TARGET, POMURICA_MODE_FIQ, 2 },
-    { POMURICA_GROUP_TARGET, POMURICA_MODE_IRQ, 2 },
-    { POMURICA_GROUP_TARGET, POMURICA_MODE_SUPERVISOR, 1 },
-    { POMURICA_GROUP_TARGET, POMURICA_MODE_MONITOR, 2 },
-    { POMURICA_GROUP_TARGET, POMURICA_MODE_ABORT, 4 },
-    { POMURICA_GROUP_TARGET, POMURICA_MODE_HYP, 1 },
-    { POMURICA_GROUP_TARGET, POMURICA_MODE_UNDEFINED, 1 },
-    { POMURICA_GROUP_TAKEN, 0, 2 },
-    { POMURICA_GROUP_TAKEN, POMURICA_WHICH_SERROR, 1 },
-    { POMURICA_GROUP_TAKEN, POMURICA_WHICH_FIQ, 1 },
-    { POMURICA_GROUP_TAKEN, POMURICA_WHICH_IRQ, 1 },
-    { POMURICA_GROUP_TAKEN, POMURICA_WHICH_VIRTUAL_SERROR, 1 },
-    { POMURICA_GROUP_TAKEN, POMURICA_WHICH_VIRTUAL_FIQ, 1 },
-    { POMURICA_GROUP_TAKEN, POMURICA_WHICH_VIRTUAL_IRQ, 1 },
+    { POMURICA_GROUP_CODE, 0, { 4, 4 } },
+    { POMURICA_GROUP_CODE, POMURICA_EVENT_UNDEFINED, { 1, 1 } },
+    { POMURICA_GROUP_CODE, POMURICA_EVENT_SVC, { 2, 2 } },
+    { POMURICA_GROUP_CODE, POMURICA_EVENT_SMC, { 2, 2 } },
+    { POMURICA_GROUP_CODE, POMURICA_EVENT_HVC, { 2, 2 } },
+    { POMURICA_GROUP_CODE, POMURICA_EVENT_PREFETCH_ABORT, { 2, 2 } },
+    { POMURICA_GROUP_CODE, POMURICA_EVENT_DATA_ABORT, { 1, 1 } },
+    { POMURICA_GROUP_CODE, POMURICA_EVENT_HYP_TRAP, { 1, 1 } },
+    { POMURICA_GROUP_CODE, POMURICA_EVENT_MONITOR_TRAP, { 1, 1 } },
+    { POMURICA_GROUP_CODE, POMURICA_EVENT_INTERRUPT_CHECK, { 9, 9 } },
+    { POMURICA_GROUP_CODE, POMURICA_EVENT_BANKED_READ, { 4, 4 } },
+    { POMURICA_GROUP_CODE, POMURICA_EVENT_BANKED_WRITE, { 1, 1 } },
+    { POMURICA_GROUP_CODE, POMURICA_EVENT_NOTE, { 14, 14 } },
+    { POMURICA_GROUP_CODE, POMURICA_EVENT_RETURN, { 3, 3 } },
+    { POMURICA_GROUP_ANSWER, POMURICA_DONE, { 32, 30 } },
+    { POMURICA_GROUP_ANSWER, POMURICA_BAD_MODE, { 1, 1 } },
+    { POMURICA_GROUP_ANSWER, POMURICA_BAD_STATE, { 1, 1 } },
+    { POMURICA_GROUP_ANSWER, POMURICA_BAD_EVENT, { 7, 9 } },
+    { POMURICA_GROUP_ANSWER, POMURICA_NOT_HERE, { 1, 1 } },
+    { POMURICA_GROUP_ANSWER, POMURICA_NO_REGISTER, { 1, 1 } },
+    { POMURICA_GROUP_ANSWER, POMURICA_NO_RIGHT, { 1, 1 } },
+    { POMURICA_GROUP_ANSWER, POMURICA_DISABLED, { 2, 2 } },
+    { POMURICA_GROUP_ANSWER, POMURICA_OWN_REGISTER, { 1, 1 } },
+    { POMURICA_GROUP_TARGET, POMURICA_MODE_FIQ, { 2, 2 } },
+    { POMURICA_GROUP_TARGET, POMURICA_MODE_IRQ, { 2, 2 } },
+    { POMURICA_GROUP_TARGET, POMURICA_MODE_SUPERVISOR, { 1, 1 } },
+    { POMURICA_GROUP_TARGET, POMURICA_MODE_MONITOR, { 2, 2 } },
+    { POMURICA_GROUP_TARGET, POMURICA_MODE_ABORT, { 4, 4 } },
+    { POMURICA_GROUP_TARGET, POMURICA_MODE_HYP, { 2, 1 } },
+    { POMURICA_GROUP_TARGET, POMURICA_MODE_UNDEFINED, { 1, 1 } },
+    { POMURICA_GROUP_TAKEN, 0, { 2, 2 } },
+    { POMURICA_GROUP_TAKEN, POMURICA_WHICH_SERROR, { 1, 1 } },
+    { POMURICA_GROUP_TAKEN, POMURICA_WHICH_FIQ, { 1, 1 } },
+    { POMURICA_GROUP_TAKEN, POMURICA_WHICH_IRQ, { 1, 1 } },
+    { POMURICA_GROUP_TAKEN, POMURICA_WHICH_VIRTUAL_SERROR, { 1, 1 } },
+    { POMURICA_GROUP_TAKEN, POMURICA_WHICH_VIRTUAL_FIQ, { 1, 1 } },
+    { POMURICA_GROUP_TAKEN, POMURICA_WHICH_VIRTUAL_IRQ, { 1, 1 } },
 };
 
 enum {
     STEPS = COUNT(EVENTS),
-    LENGTH = POMURICA_START_SIZE + STEPS * POMURICA_STEP_SIZE + POMURICA_END_SIZE,
-    END_PLACE = LENGTH - POMURICA_END_SIZE
+    MOST_LENGTH = POMURICA_START_SIZE + STEPS * POMURICA_STEP_SIZE + POMURICA_END_SIZE
 };
+
+/* The layout of the traces, by which everything here goes. */
+static bool old;
+
+static size_t end_place(void)
+{
+    return record_place(old, STEPS + 1);
+}
+
+static size_t trace_length(void)
+{
+    return end_place() + POMURICA_END_SIZE;
+}
 
 /* --------------------------------------------------------------- Traces */
 
-static void put_step(uint8_t *step, uint8_t *block, const struct event *event)
+/* A Step behind the record that has the block before it: what its layout gives. */
+static void put_step(uint8_t *step, const struct event *event)
 {
-    pomurica_put_word(step, POMURICA_RECORD_HEAD, POMURICA_STEP_HEAD);
+    struct due due;
+
+    pomurica_put_word(step, POMURICA_RECORD_HEAD, old ? POMURICA_OLD_STEP_HEAD : POMURICA_STEP_HEAD);
     pomurica_put_word(step, POMURICA_STEP_CODE, event->code);
     pomurica_put_word(step, POMURICA_STEP_A, event->a);
     pomurica_put_word(step, POMURICA_STEP_B, event->b);
-    pomurica_step(block, POMURICA_BLOCK_SIZE, event->code, event->a, event->b,
-                  step + 4 * POMURICA_STEP_NUMBER, POMURICA_ANSWER_SIZE);
-    memcpy(step + 4 * POMURICA_STEP_BLOCK, block, POMURICA_BLOCK_SIZE);
+    find_due(step, &due);
+    memcpy(step + 4 * POMURICA_STEP_NUMBER, due.answer, sizeof due.answer);
+    memcpy(step + 4 * POMURICA_STEP_BLOCK, due.block, block_size(old));
 }
 
 /* The trace of n events, each so many times, as a recorder writes it. */
@@ -147,12 +164,12 @@ static void record(uint8_t *trace, const struct event *events, uint32_t n, uint3
 
     pomurica_put_word(block, POMURICA_PLACE_CPSR, POMURICA_MODE_USER);
     pomurica_put_word(block, POMURICA_PLACE_SCR, POMURICA_SCR_NS);
-    pomurica_put_word(record, POMURICA_RECORD_HEAD, POMURICA_START_HEAD);
+    pomurica_put_word(record, POMURICA_RECORD_HEAD, old ? POMURICA_OLD_START_HEAD : POMURICA_START_HEAD);
     pomurica_put_word(record, POMURICA_RECORD_COUNT, n * times);
-    memcpy(record + 4 * POMURICA_START_BLOCK, block, sizeof block);
-    record += POMURICA_START_SIZE;
-    for (uint32_t i = 0; i < n * times; i++, record += POMURICA_STEP_SIZE)
-        put_step(record, block, &events[i / times]);
+    memcpy(record + 4 * POMURICA_START_BLOCK, block, block_size(old));
+    record += start_size(old);
+    for (uint32_t i = 0; i < n * times; i++, record += step_size(old))
+        put_step(record, &events[i / times]);
     pomurica_put_word(record, POMURICA_RECORD_HEAD, POMURICA_END_HEAD);
     pomurica_put_word(record, POMURICA_RECORD_COUNT, n * times);
 }
@@ -179,7 +196,7 @@ static void add_classes(uint8_t *counts)
     for (size_t i = 0; i < COUNT(CLASSES); i++) {
         const size_t word = word_of(&CLASSES[i]);
 
-        pomurica_put_word(counts, word, pomurica_get_word(counts, word) + CLASSES[i].count);
+        pomurica_put_word(counts, word, pomurica_get_word(counts, word) + CLASSES[i].count[old]);
     }
 }
 
@@ -203,14 +220,14 @@ static void count_onto_others(const uint8_t *trace)
     uint8_t counts[POMURICA_COUNTS_SIZE] = { 0 }, due[POMURICA_COUNTS_SIZE] = { 0 };
 
     add_classes(due);
-    expect_count("onto nothing", trace, LENGTH, counts, sizeof counts, POMURICA_DONE, due);
+    expect_count("onto nothing", trace, trace_length(), counts, sizeof counts, POMURICA_DONE, due);
     memcpy(counts, due, sizeof counts);
     add_classes(due);
-    expect_count("once more", trace, LENGTH, counts, sizeof counts, POMURICA_DONE, due);
+    expect_count("once more", trace, trace_length(), counts, sizeof counts, POMURICA_DONE, due);
     put_old_counts(counts);
     put_old_counts(due);
     add_classes(due);
-    expect_count("onto others", trace, LENGTH, counts, sizeof counts, POMURICA_DONE, due);
+    expect_count("onto others", trace, trace_length(), counts, sizeof counts, POMURICA_DONE, due);
 }
 
 /* Each class in turn: the count that just fits, and one more. */
@@ -224,12 +241,12 @@ static void count_almost_full(const uint8_t *trace)
 
         snprintf(what, sizeof what, "group %" PRIu32 ", number %" PRIu32, CLASSES[i].group, CLASSES[i].number);
         memset(counts, 0, sizeof counts);
-        pomurica_put_word(counts, word, UINT32_MAX - CLASSES[i].count);
+        pomurica_put_word(counts, word, UINT32_MAX - CLASSES[i].count[old]);
         memcpy(due, counts, sizeof due);
         add_classes(due);
-        expect_count(what, trace, LENGTH, counts, sizeof counts, POMURICA_DONE, due);
-        pomurica_put_word(counts, word, UINT32_MAX - CLASSES[i].count + 1);
-        expect_count(what, trace, LENGTH, counts, sizeof counts, POMURICA_FULL, counts);
+        expect_count(what, trace, trace_length(), counts, sizeof counts, POMURICA_DONE, due);
+        pomurica_put_word(counts, word, UINT32_MAX - CLASSES[i].count[old] + 1);
+        expect_count(what, trace, trace_length(), counts, sizeof counts, POMURICA_FULL, counts);
     }
 }
 
@@ -239,11 +256,11 @@ static void count_full(const uint8_t *trace)
     uint8_t counts[POMURICA_COUNTS_SIZE], due[POMURICA_COUNTS_SIZE];
 
     memset(counts, 0xFF, sizeof counts);
-    expect_count("all full", trace, LENGTH, counts, sizeof counts, POMURICA_FULL, counts);
+    expect_count("all full", trace, trace_length(), counts, sizeof counts, POMURICA_FULL, counts);
     for (size_t i = 0; i < COUNT(CLASSES); i++)
-        pomurica_put_word(counts, word_of(&CLASSES[i]), UINT32_MAX - CLASSES[i].count);
+        pomurica_put_word(counts, word_of(&CLASSES[i]), UINT32_MAX - CLASSES[i].count[old]);
     memset(due, 0xFF, sizeof due);
-    expect_count("all others full", trace, LENGTH, counts, sizeof counts, POMURICA_DONE, due);
+    expect_count("all others full", trace, trace_length(), counts, sizeof counts, POMURICA_DONE, due);
 }
 
 /* A refused trace, onto counts with room and onto full ones. */
@@ -260,22 +277,22 @@ static void expect_refusal(const uint8_t *trace, size_t length, uint32_t number)
 /* Each of 8 to 12, where a careless count has already seen every Step, or all but the last. */
 static void count_refused(const uint8_t *trace)
 {
-    uint8_t changed[LENGTH + 1];
-    uint8_t *const end = changed + END_PLACE;
+    uint8_t changed[MOST_LENGTH + 1];
+    uint8_t *const end = changed + end_place();
 
-    memcpy(changed, trace, LENGTH);
-    changed[LENGTH] = 0;
-    expect_refusal(changed, LENGTH + 1, POMURICA_TRAILING);
-    expect_refusal(changed, LENGTH - 1, POMURICA_SHORT);
+    memcpy(changed, trace, trace_length());
+    changed[trace_length()] = 0;
+    expect_refusal(changed, trace_length() + 1, POMURICA_TRAILING);
+    expect_refusal(changed, trace_length() - 1, POMURICA_SHORT);
     expect_refusal(changed, 0, POMURICA_SHORT);
-    pomurica_put_word(end, POMURICA_RECORD_HEAD, POMURICA_STEP_HEAD);
-    expect_refusal(changed, LENGTH, POMURICA_BAD_RECORD);
+    pomurica_put_word(end, POMURICA_RECORD_HEAD, old ? POMURICA_OLD_STEP_HEAD : POMURICA_STEP_HEAD);
+    expect_refusal(changed, trace_length(), POMURICA_BAD_RECORD);
     pomurica_put_word(end, POMURICA_RECORD_HEAD, POMURICA_END_HEAD);
     pomurica_put_word(end, POMURICA_RECORD_COUNT, STEPS + 1);
-    expect_refusal(changed, LENGTH, POMURICA_BAD_COUNT);
+    expect_refusal(changed, trace_length(), POMURICA_BAD_COUNT);
     pomurica_put_word(end, POMURICA_RECORD_COUNT, STEPS);
     end[-1] ^= 1;
-    expect_refusal(changed, LENGTH, POMURICA_WRONG_STEP);
+    expect_refusal(changed, trace_length(), POMURICA_WRONG_STEP);
 }
 
 /* The most that one trace can add to a count, all of it of a code that the rules do not know. */
@@ -284,7 +301,8 @@ static void count_longest(void)
     static const struct event NONE = { 0, 0, 0 };
     const size_t bad_event = POMURICA_GROUP_SIZE * (POMURICA_GROUP_ANSWER - 1) + POMURICA_BAD_EVENT;
     uint8_t counts[POMURICA_COUNTS_SIZE] = { 0 }, due[POMURICA_COUNTS_SIZE] = { 0 };
-    uint8_t *trace = malloc(POMURICA_LONGEST_TRACE);
+    const size_t longest = old ? POMURICA_OLD_LONGEST_TRACE : POMURICA_LONGEST_TRACE;
+    uint8_t *trace = malloc(longest);
 
     if (!check(trace != NULL, "no memory"))
         return;
@@ -292,9 +310,9 @@ static void count_longest(void)
     pomurica_put_word(counts, 0, UINT32_MAX - POMURICA_MOST_STEPS);
     pomurica_put_word(due, 0, UINT32_MAX);
     pomurica_put_word(due, bad_event, POMURICA_MOST_STEPS);
-    expect_count("fits", trace, POMURICA_LONGEST_TRACE, counts, sizeof counts, POMURICA_DONE, due);
+    expect_count("fits", trace, longest, counts, sizeof counts, POMURICA_DONE, due);
     pomurica_put_word(counts, 0, UINT32_MAX - POMURICA_MOST_STEPS + 1);
-    expect_count("one too many", trace, POMURICA_LONGEST_TRACE, counts, sizeof counts, POMURICA_FULL, counts);
+    expect_count("one too many", trace, longest, counts, sizeof counts, POMURICA_FULL, counts);
     free(trace);
 }
 
@@ -309,8 +327,8 @@ static void count_sizes(const uint8_t *trace)
         char what[64];
 
         snprintf(what, sizeof what, "counts of %zu bytes", WRONG[i]);
-        expect_count(what, trace, LENGTH, counts, WRONG[i], POMURICA_BAD_SIZE, counts);
-        expect_count(what, trace, LENGTH - 1, counts, WRONG[i], POMURICA_BAD_SIZE, counts);
+        expect_count(what, trace, trace_length(), counts, WRONG[i], POMURICA_BAD_SIZE, counts);
+        expect_count(what, trace, trace_length() - 1, counts, WRONG[i], POMURICA_BAD_SIZE, counts);
     }
 }
 
@@ -456,12 +474,12 @@ static void list_sizes(void)
 }
 
 /* NULL for each buffer with length 0. */
-static void run_null(const uint8_t *trace)
+static void run_null(void)
 {
     uint8_t counts[POMURICA_COUNTS_SIZE] = { 0 }, lines[POMURICA_LINES_SIZE], answer[POMURICA_ANSWER_SIZE];
 
     check(pomurica_count(NULL, 0, counts, sizeof counts) == POMURICA_SHORT, "no trace");
-    check(pomurica_count(trace, LENGTH, NULL, 0) == POMURICA_BAD_SIZE, "no counts");
+    check(pomurica_count(SHORTEST, sizeof SHORTEST, NULL, 0) == POMURICA_BAD_SIZE, "no counts");
     check(pomurica_count(NULL, 0, NULL, 0) == POMURICA_BAD_SIZE, "neither");
     check(pomurica_count_lines(NULL, 0, lines, sizeof lines, answer, sizeof answer) == POMURICA_BAD_SIZE,
           "lines of no counts");
@@ -475,24 +493,33 @@ static void run_null(const uint8_t *trace)
     check(pomurica_count_lines(NULL, 0, NULL, 0, NULL, 0) == POMURICA_BAD_SIZE, "nothing at all");
 }
 
+/* All that is counted, with traces of one layout. */
+static void count_in(bool in_old)
+{
+    static uint8_t trace[MOST_LENGTH];
+    const char *const layout = layout_name(in_old);
+
+    old = in_old;
+    record(trace, EVENTS, STEPS, 1);
+    group_of(layout, "a trace of every class, counted");
+    count_onto_others(trace);
+    group_of(layout, "each class in turn almost full");
+    count_almost_full(trace);
+    group_of(layout, "every count full");
+    count_full(trace);
+    group_of(layout, "each refusal leaves the counts");
+    count_refused(trace);
+    group_of(layout, "the longest trace, all of one class");
+    count_longest();
+    group_of(layout, "counts of other sizes");
+    count_sizes(trace);
+}
+
 int main(void)
 {
-    static uint8_t trace[LENGTH];
-
     open_edge(POMURICA_LONGEST_TRACE);
-    record(trace, EVENTS, STEPS, 1);
-    group("a trace of every class, counted");
-    count_onto_others(trace);
-    group("each class in turn almost full");
-    count_almost_full(trace);
-    group("every count full");
-    count_full(trace);
-    group("each refusal leaves the counts");
-    count_refused(trace);
-    group("the longest trace, all of one class");
-    count_longest();
-    group("counts of other sizes");
-    count_sizes(trace);
+    count_in(true);
+    count_in(false);
     group("lines of no counts");
     list_nothing();
     group("the line of each count alone");
@@ -504,6 +531,6 @@ int main(void)
     group("lines with buffers of other sizes");
     list_sizes();
     group("NULL with length 0, counts and lines");
-    run_null(trace);
+    run_null();
     return summary();
 }

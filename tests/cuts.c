@@ -24,7 +24,9 @@ static uint32_t beside(struct chance *chance, uint32_t number)
 static size_t any_length(struct chance *chance, enum manner manner, size_t left)
 {
     static const size_t FEW[] = { 0, 1, 3, 4, 5 };
-    static const uint32_t RECORDS[] = { START_SIZE, STEP_SIZE, STEP_SIZE, 2 * STEP_SIZE, END_SIZE };
+    static const uint32_t RECORDS[] = {
+        START_SIZE, STEP_SIZE, STEP_SIZE, 2 * STEP_SIZE, OLD_START_SIZE, OLD_STEP_SIZE, 2 * OLD_STEP_SIZE, END_SIZE
+    };
 
     switch (manner) {
     case BY_FEW: return FEW[any_below(chance, COUNT(FEW))];
@@ -64,7 +66,7 @@ static uint32_t any_mark(struct chance *chance)
 /* As many bytes as a head, a record or nothing has, or about as many. */
 static uint32_t any_held(struct chance *chance)
 {
-    static const uint32_t SIZES[] = { 0, HEAD_SIZE, END_SIZE, START_SIZE, STEP_SIZE };
+    static const uint32_t SIZES[] = { 0, HEAD_SIZE, END_SIZE, START_SIZE, STEP_SIZE, OLD_START_SIZE, OLD_STEP_SIZE };
 
     return one_in(chance, 16) ? any_word(chance) : beside(chance, SIZES[any_below(chance, COUNT(SIZES))]);
 }
@@ -72,8 +74,9 @@ static uint32_t any_held(struct chance *chance)
 /* A session that waits for one of the records of an honest trace, and holds some of it; gives how many bytes it has had. */
 static size_t go_on(struct chance *chance, const uint8_t *trace, uint32_t n, struct pomurica_session *words)
 {
-    const uint32_t record = any_below(chance, n + 2), place = record_place(record);
-    const uint32_t size = record == 0 ? START_SIZE : record <= n ? STEP_SIZE : END_SIZE;
+    const bool old = is_old(trace);
+    const uint32_t record = any_below(chance, n + 2), place = record_place(old, record);
+    const uint32_t size = record == 0 ? start_size(old) : record <= n ? step_size(old) : END_SIZE;
     const uint32_t held = any_held(chance);
 
     memset(words, 0, sizeof *words);
@@ -81,10 +84,10 @@ static size_t go_on(struct chance *chance, const uint8_t *trace, uint32_t n, str
     words->place = place;
     memcpy(words->unfinished, trace + place, words->held);
     if (record != 0) {
-        words->stage = POMURICA_STAGE_NEXT;
+        words->stage = old ? POMURICA_STAGE_OLD_NEXT : POMURICA_STAGE_NEXT;
         words->count = n;
         words->steps = record - 1;
-        memcpy(words->block, trace + place - POMURICA_BLOCK_SIZE, POMURICA_BLOCK_SIZE);
+        memcpy(words->block, trace + place - block_size(old), block_size(old));
     }
     return place + words->held;
 }
@@ -122,18 +125,28 @@ static void spoil_numbers(struct chance *chance, struct pomurica_session *words)
     }
 }
 
+/* Changes the bytes behind those that a trace of the old layout uses. */
+static void spoil_behind(struct chance *chance, struct pomurica_session *words)
+{
+    const size_t block = POMURICA_OLD_BLOCK_SIZE, record = POMURICA_OLD_STEP_SIZE;
+
+    any_bytes(chance, words->block + block, sizeof words->block - block);
+    any_bytes(chance, words->unfinished + record, sizeof words->unfinished - record);
+}
+
 /* Changes what a session keeps, or bytes that it is fed. */
 static void spoil_bytes(struct chance *chance, struct unopened *unopened)
 {
     struct pomurica_session *const words = &unopened->words;
     const uint32_t held = words->held < sizeof words->unfinished ? words->held : 0;
 
-    switch (any_below(chance, 6)) {
+    switch (any_below(chance, 7)) {
     case 0: any_bytes(chance, words->unfinished + held, sizeof words->unfinished - held); break; /* where nothing is yet */
     case 1: any_bytes(chance, words->unfinished, sizeof words->unfinished); break;
     case 2: flip(chance, words->unfinished, held != 0 ? held : 1); break;
     case 3: flip(chance, words->unfinished, HEAD_SIZE); break;
     case 4: flip(chance, words->block, sizeof words->block); break;
+    case 5: spoil_behind(chance, words); break;
     default: flip(chance, unopened->bytes, unopened->length); break;
     }
 }
@@ -151,7 +164,7 @@ void any_unopened(struct chance *chance, struct unopened *unopened)
 {
     static uint8_t trace[MADE_SIZE];
     const uint32_t n = any_below(chance, 5);
-    const size_t length = record_trace(chance, n, trace);
+    const size_t length = record_either(chance, n, trace);
     const size_t had = go_on(chance, trace, n, &unopened->words);
 
     unopened->length = length - had;

@@ -9,22 +9,22 @@ import re
 import sys
 
 sys.dont_write_bytecode = True
-from records import START_BLOCK, START_SIZE, STEP_BLOCK, STEP_NUMBER  # noqa: E402
+from records import END_SIZE, OLD, START_BLOCK, START_SIZE, STEP_BLOCK, STEP_NUMBER, STEP_SIZE, as_old  # noqa: E402
 from runs import Runs, read  # noqa: E402
 
 SAMPLES = os.path.abspath(sys.argv[1])
-HONEST = read(os.path.join(SAMPLES, 'honest.trace'))
+HONEST, HONEST_OLD, DEBUG = (read(os.path.join(SAMPLES, f'{name}.trace')) for name in ('honest', 'honest-old', 'debug'))
 runs = Runs([os.path.join(SAMPLES, 'damage')])
 expect = runs.expect
 
-# Arguments that are none, on a trace of 1,992 bytes with 9 Steps, and what is told of them.
+# Arguments that are none, on a trace of 2,032 bytes with 9 Steps, and what is told of them.
 MISUSED = [
     ([], 'no kind; --help lists them'),
     (['rot'], "no kind 'rot'; --help lists them"),
     (['--help', 'cut'], "no kind '--help'; --help lists them"),
     (['cut'], 'cut takes LENGTH'),
     (['cut', '1', '2'], 'cut takes LENGTH'),
-    (['cut', '1993'], 'the trace has 1992 bytes, and not 1993'),
+    (['cut', '2033'], 'the trace has 2032 bytes, and not 2033'),
     (['cut', '-1'], '-1 is below 0'),
     (['cut', 'x'], "'x' is no number"),
     (['add', '1', 'CPSR', ''], "'' is no number"),
@@ -44,6 +44,17 @@ MISUSED = [
     (['flip-all', 'SCR', '32'], 'no bit 32 in a word'),
     (['flip-all', '1', '7'], "no place '1' in the block"),
     (['rubbish', '-1'], '-1 is below 0'),
+    (['old', '1'], 'old takes no argument'),
+    (['turn'], 'turn takes STEP'),
+    (['turn', '10'], 'no Step 10: the trace has 9'),
+]
+
+# The same on other traces: the old layout has no HDCR.
+OTHERS = [
+    (['old'], HONEST_OLD, 'the trace is of the old layout'),
+    (['old'], DEBUG, 'HDCR, which the old layout has not, is not 0 throughout'),
+    (['flip', '1', 'HDCR', '8'], HONEST_OLD, "no place 'HDCR' in the block"),
+    (['turn', '0'], HONEST_OLD, 'no Step 0: the trace has 9'),
 ]
 
 
@@ -55,7 +66,12 @@ def try_misuse():
     for arguments, told in MISUSED:
         seen = damage(*arguments)
         expect(f'damage {" ".join(arguments)}', seen == (2, b'', f'damage: {told}\n'.encode()), seen)
-    for name, given in {'empty': b'', 'cut': HONEST[:-1], 'trailing': HONEST + b'x', 'zeros': bytes(1992)}.items():
+    for arguments, given, told in OTHERS:
+        seen = damage(*arguments, given=given)
+        expect(f'damage {" ".join(arguments)}: {told}', seen == (2, b'', f'damage: {told}\n'.encode()), seen)
+    for name, given in {'empty': b'', 'cut': HONEST[:-1], 'trailing': HONEST + b'x', 'zeros': bytes(2032),
+                        'old, cut': HONEST_OLD[:-1], 'an old head': HONEST_OLD[:4] + HONEST[4:],
+                        'a new head': HONEST[:4] + HONEST_OLD[4:]}.items():
         due = f'damage: standard input, of {len(given)} bytes, is no whole trace\n'.encode()
         seen = damage('skip', '1', given=given)
         expect(f'no whole trace: {name}', seen == (2, b'', due), seen)
@@ -69,10 +85,10 @@ def try_misuse():
 
 def try_kinds():
     status, out, told = damage('--help')
-    listed = set(re.findall(rb'^  ([a-z-]+) [A-Z]', out, re.M))
+    listed = set(re.findall(rb'^  ([a-z-]+) ', out, re.M))
     expect('--help', (status, told) == (0, b'') and out.startswith(b'usage: damage '), (status, told))
     rows = re.findall(r'^\| \S+\.trace \|.*', read(os.path.join(SAMPLES, 'README.md')).decode(), re.M)
-    used = {row.split('|')[4].split()[0].encode() for row in rows if row.split('|')[4].strip()}
+    used = {kind.split()[0].encode() for row in rows for kind in row.split('|')[4].split(';') if kind.strip()}
     expect(f'every kind makes a sample: {len(listed)}', listed == used and len(used) > 8, (listed, used))
     scripts = {row.split('|')[3].strip() for row in rows} - {''}
     there = {name for name in os.listdir(SAMPLES) if name.endswith('.script')}
@@ -81,10 +97,10 @@ def try_kinds():
     expect('a bit that is turned over twice', damage('flip', '3', 'PC', '0', given=flipped) == (0, HONEST, b''))
     every = HONEST
     for step in range(1, 10):
-        every = damage('flip', str(step), 'MVBAR', '31', given=every)[1]
+        every = damage('flip', str(step), 'HDCR', '31', given=every)[1]
     at = START_SIZE - 1  # of the Start, the last byte
     every = every[:at] + bytes([every[at] ^ 0x80]) + every[at + 1:]
-    expect('a bit of every block', damage('flip-all', 'MVBAR', '31') == (0, every, b''))
+    expect('a bit of every block', damage('flip-all', 'HDCR', '31') == (0, every, b''))
     first = damage('flip-all', 'R8_usr', '0')[1]
     expect('and of its first word, in the Start too', first[START_BLOCK] == HONEST[START_BLOCK] ^ 1 and
            sum(one != other for one, other in zip(first, HONEST)) == 10)
@@ -96,9 +112,25 @@ def try_kinds():
     answered = HONEST[:at] + bytes([7, 0, 0, 0]) + HONEST[at + 4:]
     expect('an answer', damage('answer', '1', '7') == (0, answered, b'') and answered != HONEST)
     expect('a sum wraps', damage('add', '1', 'R8_usr', '0x100000000') == (0, HONEST, b''))
-    expect('a cut of nothing, and of everything', (damage('cut', '0')[1], damage('cut', '1992')[1]) == (b'', HONEST))
+    expect('a cut of nothing, and of everything', (damage('cut', '0')[1], damage('cut', '2032')[1]) == (b'', HONEST))
+
+
+def try_layouts():
+    """What a recorder of the old layout has of the same events; and a Step alone of the other one."""
+    expect('the honest trace, as an old one', damage('old') == (0, HONEST_OLD, b'') and HONEST_OLD == as_old(HONEST))
+    for kind in (['flip-all', 'MVBAR', '31'], ['undone', '3'], ['skip', '9'], ['stale', '7', 'SPSR_irq'],
+                 ['end-count', '1']):
+        new, old = damage(*kind)[1], damage(*kind, given=HONEST_OLD)[1]
+        expect(f'{" ".join(kind)}, of a trace of either layout', as_old(new) == old != HONEST_OLD)
+    turned, at = damage('turn', '9', given=HONEST_OLD)[1], OLD.start_size + 8 * OLD.step_size
+    due = HONEST_OLD[:at] + HONEST[-END_SIZE - STEP_SIZE:]
+    expect('the last Step of an old trace, as a new one', turned == due, len(turned))
+    turned, at = damage('turn', '1')[1], START_SIZE
+    due = HONEST[:at] + HONEST_OLD[OLD.start_size:OLD.start_size + OLD.step_size] + HONEST[at + STEP_SIZE:]
+    expect('the first of a new one, as an old one', turned == due, len(turned))
 
 
 try_misuse()
 try_kinds()
+try_layouts()
 runs.end()

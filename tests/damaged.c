@@ -1,6 +1,7 @@
 /*
- * Writes traces of chance, honest and damaged, as files of a folder, and on
- * standard output the line that the console has to print for each.
+ * Writes traces of chance, honest and damaged, of both layouts, as files of a
+ * folder, and on standard output the line that the console has to print for
+ * each.
  *
  *     damaged FOLDER COUNT SEED
  */
@@ -41,7 +42,7 @@ int main(int argc, char **argv)
 {
     static uint8_t trace[MADE_SIZE];
     struct expected expected;
-    struct chance chance;
+    struct chance chance = { .seed = 0 };
     char name[4096];
 
     if (argc != 4) {
@@ -50,7 +51,7 @@ int main(int argc, char **argv)
     }
     chance.seed = strtoull(argv[3], NULL, 10);
     for (unsigned long i = 0; i < strtoul(argv[2], NULL, 10); i++) {
-        const size_t length = make_trace(&chance, (enum damage)(i % DAMAGES), trace, &expected);
+        const size_t length = make_either(&chance, (enum damage)(i % DAMAGES), trace, &expected);
 
         snprintf(name, sizeof name, "%s/%06lu", argv[1], i);
         if (write_file(name, trace, length) != 0)

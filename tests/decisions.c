@@ -92,7 +92,7 @@ static bool can_be_met(const struct kind *kind, uint32_t index)
 
 int main(void)
 {
-    struct chance chance = { 4 };
+    struct chance chance = { .seed = 4 };
 
     group("the table against the step, on good blocks");
     for (int i = 0; i < BLOCKS; i++)

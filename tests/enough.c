@@ -126,6 +126,7 @@ static void show_ways(void)
         [PREFETCH_ABORT_BY_TGE] = "Prefetch Abort to Hyp by TGE",
         [DATA_ABORT_BY_TGE] = "Data Abort to Hyp by TGE",
         [INTERRUPT_BY_TGE] = "interrupt to Hyp by TGE",
+        [DEBUG_TO_HYP] = "debug abort to Hyp",
     };
 
     for (uint32_t way = 0; way < WAYS; way++)
@@ -186,7 +187,48 @@ static bool is_of_good_block(uint32_t mode, uint32_t ns, uint32_t tge)
 {
     if (mode == MODE_HYP)
         return ns == 1;
-    return mode == MODE_MONITOR || ns == 0 || tge == 0;
+    return mode == MODE_USER || mode == MODE_MONITOR || ns == 0 || tge == 0;
+}
+
+/* With TDE 0 and with TDE 1, in this order. */
+static const char *due_of_debug(uint32_t mode, uint32_t ns, uint32_t tge)
+{
+    if (mode == MODE_HYP)
+        return "oo";
+    if (ns == 0 || mode == MODE_MONITOR)
+        return "aa";
+    return tge == 1 ? "hh" : "ah";
+}
+
+static void show_debug_from(uint32_t mode, uint32_t ns, uint32_t tge)
+{
+    static const char *const COLUMNS[] = { "TDE 0", "TDE 1" };
+    const struct ends table = { COLUMNS, COUNT(COLUMNS), "aho", seldom }; /* as enum debug_end */
+    char name[32];
+
+    if (!is_of_good_block(mode, ns, tge))
+        return;
+    snprintf(name, sizeof name, "0x%" PRIX32 ", %" PRIu32 ", %" PRIu32, mode, ns, tge);
+    show_ends(&table, name, due_of_debug(mode, ns, tge), met.debug[mode][ns][tge][0]);
+}
+
+/* From every mode, with NS, TGE and TDE as they can be. */
+static void show_debugs(void)
+{
+    static const char *const COLUMNS[] = { "TDE 0", "TDE 1" };
+    static const char *const NOTES[] = { "TDE set", "TDE cleared" };
+
+    printf("\n  debug aborts from a mode, with NS and TGE, by TDE: a to Abort, h to Hyp at 0x14, o in Hyp at 0x0C");
+    show_heads("from", COLUMNS, COUNT(COLUMNS));
+    for (uint32_t i = 0; i < MODE_COUNT; i++)
+        for (uint32_t ns = 0; ns <= 1; ns++)
+            for (uint32_t tge = 0; tge <= 1; tge++)
+                show_debug_from(MODES[i], ns, tge);
+    show("debug and external", met.beside_debug[ABORT_EXTERNAL]);
+    show("debug of stage 2", met.beside_debug[ABORT_STAGE_2]);
+    show("debug and both", met.beside_debug[ABORT_EXTERNAL | ABORT_STAGE_2]);
+    show_heads("", NOTES, COUNT(NOTES));
+    show_row("note on HDCR", NOTES, met.note_on_hdcr, COUNT(NOTES));
 }
 
 static void show_returns_from(uint32_t mode, uint32_t ns, uint32_t tge)
@@ -450,6 +492,7 @@ void show_met(unsigned long millions)
     show_taken();
     show_ways();
     show_calls();
+    show_debugs();
     show_returns();
     show_returned();
     show_return_operands();

@@ -1,4 +1,4 @@
-"""docs/FORMAT.md's drawn trace, put together and judged, and its numbers and the README's held against the header's.
+"""docs/FORMAT.md's drawn trace, put together in both layouts and judged; its numbers, and README's, by the header's.
 
     format.py CONSOLE...
 
@@ -15,7 +15,7 @@ PAGE = (ROOT / "docs/FORMAT.md").read_text()
 HEADER = (ROOT / "host/pomurica.h").read_text()
 README = (ROOT / "README.md").read_text()
 
-ROW = re.compile(r"^ +(\d+)  ((?:[0-9A-F]{2} )+|00 x \d+) +\S", re.MULTILINE)
+ROW = re.compile(r"^ +(\d+)  ((?:[0-9A-F]{2} )+|00 x \d+) +(\S.*)", re.MULTILINE)
 
 results = []
 
@@ -35,11 +35,21 @@ def bytes_of(cell):
 def drawn_trace():
     """The rows put together; None where a row does not stand at the byte that it names."""
     trace = b""
-    for place, cell in ROW.findall(PAGE):
+    for place, cell, _ in ROW.findall(PAGE):
         if int(place) != len(trace):
             return None
         trace += bytes_of(cell)
     return trace
+
+
+def old_trace():
+    """The same in the old layout, as the page says: other heads, and no row of place 44."""
+    heads = re.search(r"it begins `(.*?)`, its Step `(.*?)`, and the two rows of place 44 are not\nthere", PAGE)
+    rows = [bytes_of(cell) for _, cell, what in ROW.findall(PAGE) if not what.startswith("place 44")]
+    step = next(i for i, (_, _, what) in enumerate(ROW.findall(PAGE)) if what.startswith("Step: ")) - 1
+    for at, head in ((0, heads[1]), (step, heads[2])):
+        rows[at:at + 2] = [bytes_of(head), b""]
+    return b"".join(rows)
 
 
 def judge(console, trace):
@@ -86,7 +96,7 @@ def check_places(numbers):
     short = {"SCTLR of the Secure state": "SCTLR_S", "SCTLR of the Non-secure state": "SCTLR_NS",
              "VBAR of the Secure state": "VBAR_S", "VBAR of the Non-secure state": "VBAR_NS"}
     found = [numbers.get("PLACE_" + short.get(name, name).upper()) for name in names]
-    check(found == list(range(44)), "the 44 places stand in the header's order")
+    check(found == list(range(numbers["PLACES"])), f"the {len(found)} places stand in the header's order")
 
 
 def check_numbers():
@@ -100,16 +110,37 @@ def check_numbers():
     check(named == {name: name for name, _ in numbers}, "and each has its name")
 
 
+def check_records(numbers):
+    """The table of records against the header's numbers."""
+    rows = re.findall(r"^\| (Start|Step|End) \| (new|old|both) \| (\d+) \| (\d+) \| `(.*?)`", PAGE, re.MULTILINE)
+    for record, layout, size, kind, head in rows:
+        prefix, name = "OLD_" if layout == "old" else "", record.upper()
+        due = numbers[f"{prefix}{name}_SIZE"], numbers[f"{prefix}KIND_{name}"]
+        halves = b"".join(number.to_bytes(2, "little") for number in due)
+        check((int(size), int(kind)) == due and bytes_of(head) == halves,
+              f"length, kind and head of the {record}, {layout}")
+    check(len(rows) == 5, "a Start and a Step of each layout, and an End")
+
+
+def check_judged(console, name, trace, start, spsr):
+    """A drawn trace is accepted, and refused without its SPSR_svc."""
+    status, line = judge(console, trace)
+    check(status == 0 and line.startswith("accepted, 1 Steps"), f"{name} is accepted, 1 Steps")
+    status, line = judge(console, trace[:spsr] + b"\0" + trace[spsr + 1:])
+    check(status == 1 and line == f"refused 11 WRONG_STEP at byte {start} after 0 Steps\n",
+          "without its SPSR_svc it is refused")
+
+
 def main():
     console = sys.argv[1:]
-    trace = drawn_trace()
-    check(trace is not None and len(trace) == 392, "each drawn row stands at the byte that it names, 392 in all")
-    status, line = judge(console, trace or b"")
-    check(status == 0 and line.startswith("accepted, 1 Steps"), "the drawn trace is accepted, 1 Steps")
-    status, line = judge(console, (trace or b"")[:320] + b"\0" + (trace or b"")[321:])
-    check(status == 1 and line == "refused 11 WRONG_STEP at byte 184 after 0 Steps\n", "without its SPSR_svc it is refused")
+    trace, old = drawn_trace() or b"", old_trace()
+    check(len(trace) == 400, "each drawn row stands at the byte that it names, 400 in all")
+    check_judged(console, "the drawn trace", trace, 188, 324)
+    check(len(old) == 392, "in the old layout it has 392 bytes")
+    check_judged(console, "the drawn trace in the old layout", old, 184, 320)
 
     numbers = constants()
+    check_records(numbers)
     rows = list(bit_rows())
     wrong = [row for row in rows if numbers.get(header_name(*row[:2]), 31 if row[1] == "mode" else None) != row[2]]
     check(len(rows) > 40 and not wrong, f"the {len(rows)} fields of the table of bits are the header's {wrong or ''}")

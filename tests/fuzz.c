@@ -5,6 +5,7 @@
 #include "markup.h"
 
 #include "../host/arrival.h"
+#include "../host/layout.h"
 #include "../host/page.h"
 #include "../host/phrases.h"
 #include "../host/record.h"
@@ -14,9 +15,6 @@
 #include <stdbool.h>
 #include <stdio.h>
 #include <stdlib.h>
-
-/* The last part of a Step. */
-enum { LAST_PART = POMURICA_PART_BLOCK - 1 + POMURICA_PLACES };
 
 /* A trace, and what is said of it. */
 struct judged {
@@ -42,18 +40,23 @@ static void hold(bool held, const char *what)
     abort();
 }
 
-/* The place is that of the record due after so many right Steps, of the Start, or behind the End. */
-static bool is_at_a_record(const struct judged *judged)
+/* The place is that of the record due after so many right Steps, or behind the End; of a trace whose Start is right. */
+static bool is_behind_start(const struct judged *judged)
 {
-    const uint32_t next = step_place(judged->steps), end = next + POMURICA_END_SIZE;
-    const bool at_start = judged->place == 0 && judged->steps == 0;
+    const uint32_t next = step_place(judged->trace, judged->steps), end = next + POMURICA_END_SIZE;
 
     switch (judged->number) {
     case POMURICA_DONE: return judged->place == end && end == judged->length;
     case POMURICA_TRAILING: return judged->place == end && end < judged->length;
-    case POMURICA_WRONG_STEP: return judged->place == next && next + POMURICA_STEP_SIZE <= judged->length;
-    default: return judged->place == next || at_start;
+    case POMURICA_WRONG_STEP:
+        return judged->place == next && next + layout_of(judged->trace)->step_size <= judged->length;
+    default: return judged->place == next;
     }
+}
+
+static bool is_at_a_record(const struct judged *judged)
+{
+    return judged->place == 0 ? judged->steps == 0 : is_behind_start(judged);
 }
 
 static void check_report(struct judged *judged)
@@ -76,7 +79,7 @@ static uint32_t done_steps(const struct judged *judged)
     uint32_t done = 0;
 
     for (uint32_t index = 0; index < judged->steps; index++)
-        done += pomurica_get_word(judged->trace + step_place(index), POMURICA_STEP_NUMBER) == POMURICA_DONE;
+        done += pomurica_get_word(step_at(judged->trace, index), POMURICA_STEP_NUMBER) == POMURICA_DONE;
     return done;
 }
 
@@ -113,7 +116,7 @@ static struct pomurica_event *take_events(const struct judged *judged)
 
     hold(events != NULL, "there is memory for events");
     for (uint32_t index = 0; index < judged->steps; index++) {
-        const uint8_t *const step = judged->trace + step_place(index);
+        const uint8_t *const step = step_at(judged->trace, index);
 
         events[index].code = pomurica_get_word(step, POMURICA_STEP_CODE);
         events[index].a = pomurica_get_word(step, POMURICA_STEP_A);
@@ -122,7 +125,24 @@ static struct pomurica_event *take_events(const struct judged *judged)
     return events;
 }
 
-/* Those events, recorded from the start block, give those Steps again, and an accepted trace to its last byte. */
+/* A Step that was found right shows what is due. */
+static void check_right(const struct judged *judged)
+{
+    for (uint32_t index = 0; index < judged->steps; index++) {
+        const uint8_t *const step = step_at(judged->trace, index);
+        struct due due;
+
+        find_due(step, &due);
+        hold(memcmp(step + 4 * POMURICA_STEP_NUMBER, due.answer, sizeof due.answer) == 0 &&
+                 memcmp(block_after(step), due.block, layout_of(step)->block_size) == 0,
+             "a right Step is what is due");
+    }
+}
+
+/*
+ * The events of a trace of the new layout, recorded from the start block, give those Steps again, and an accepted trace
+ * to its last byte.  There is no recorder of the old one.
+ */
 static void check_recorded(const struct judged *judged)
 {
     const size_t size = POMURICA_TRACE_SIZE(judged->steps), block_at = 4 * POMURICA_START_BLOCK;
@@ -130,14 +150,14 @@ static void check_recorded(const struct judged *judged)
     uint32_t number;
     uint8_t *again;
 
-    if (judged->place == 0) /* without a Start there is no block */
+    if (judged->place == 0 || layout_of(judged->trace)->old) /* without a Start there is no block */
         return;
     events = take_events(judged);
     again = malloc(size);
     hold(again != NULL, "there is memory for a trace");
     number = pomurica_record(judged->trace + block_at, POMURICA_BLOCK_SIZE, events, judged->steps, again, size, 0);
     hold(number == POMURICA_DONE, "right Steps can be recorded");
-    hold(memcmp(again + block_at, judged->trace + block_at, step_place(judged->steps) - block_at) == 0,
+    hold(memcmp(again + block_at, judged->trace + block_at, step_place(judged->trace, judged->steps) - block_at) == 0,
          "right Steps are recorded as they are");
     hold(judged->number != POMURICA_DONE || memcmp(again, judged->trace, size) == 0,
          "an accepted trace is the recorded one");
@@ -161,13 +181,14 @@ static uint32_t word_due(const struct due *due, uint32_t part)
 static void check_part(const struct judged *judged)
 {
     const uint8_t *const step = judged->trace + judged->place;
+    const uint32_t last = POMURICA_PART_BLOCK - 1 + layout_of(step)->places;
     uint32_t part = POMURICA_PART_NUMBER;
     struct due due;
 
     find_due(step, &due);
-    while (part <= LAST_PART && word_found(step, part) == word_due(&due, part))
+    while (part <= last && word_found(step, part) == word_due(&due, part))
         part++;
-    hold(part <= LAST_PART, "a wrong Step differs");
+    hold(part <= last, "a wrong Step differs");
     hold(pomurica_get_word(judged->explanation, POMURICA_EXPLANATION_PART) == part,
          "the first part that differs is explained");
     hold(pomurica_get_word(judged->explanation, POMURICA_EXPLANATION_FOUND) == word_found(step, part),
@@ -358,6 +379,7 @@ int LLVMFuzzerTestOneInput(const uint8_t *data, size_t size)
     judged.trace = trace;
     check_report(&judged);
     check_arrival(&judged);
+    check_right(&judged);
     check_recorded(&judged);
     check_explanation(&judged);
     check_steps(&judged);

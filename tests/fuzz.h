@@ -26,8 +26,9 @@ struct input parts_of(const uint8_t *data, size_t size);
 char *take_name(const struct input *input);
 uint8_t *take_trace(const struct input *input, size_t *length);
 
-/* Writes the Step of an event as the rules give it from the block that stands before it. */
-void record_step(uint8_t *step, uint32_t code, uint32_t a, uint32_t b);
+/* Writes the Step of an event, of a layout, as its rules give it from the block that stands before it. */
+struct layout;
+void record_step(const struct layout *layout, uint8_t *step, uint32_t code, uint32_t a, uint32_t b);
 
 /* What the fuzzer calls, by the names that it knows: to try an input, and to make another of one. */
 int LLVMFuzzerTestOneInput(const uint8_t *data, size_t size);

@@ -2,6 +2,7 @@
 
 #include "chance.h"
 
+#include "../host/layout.h"
 #include "../host/record.h"
 
 #include <stdlib.h>
@@ -40,27 +41,28 @@ char *take_name(const struct input *input)
     return name;
 }
 
-void record_step(uint8_t *step, uint32_t code, uint32_t a, uint32_t b)
+void record_step(const struct layout *layout, uint8_t *step, uint32_t code, uint32_t a, uint32_t b)
 {
-    uint8_t *const after = step + 4 * POMURICA_STEP_BLOCK;
+    struct due due;
 
-    pomurica_put_word(step, POMURICA_RECORD_HEAD, POMURICA_STEP_SIZE | POMURICA_KIND_STEP << 16);
+    pomurica_put_word(step, POMURICA_RECORD_HEAD, layout->step_size | layout->step_kind << 16);
     pomurica_put_word(step, POMURICA_STEP_CODE, code);
     pomurica_put_word(step, POMURICA_STEP_A, a);
     pomurica_put_word(step, POMURICA_STEP_B, b);
-    memcpy(after, block_before(step), POMURICA_BLOCK_SIZE);
-    pomurica_step(after, POMURICA_BLOCK_SIZE, code, a, b, step + 4 * POMURICA_STEP_NUMBER, POMURICA_ANSWER_SIZE);
+    find_due(step, &due);
+    memcpy(step + 4 * POMURICA_STEP_NUMBER, due.answer, sizeof due.answer);
+    memcpy(step + 4 * POMURICA_STEP_BLOCK, due.block, layout->block_size);
 }
 
 /* Steps from mode to mode, as bytes of the trace choose them, and back: the last one leaves the block before the first. */
-static void record_more(const struct input *input, uint8_t *step, uint32_t more)
+static void record_more(const struct input *input, const struct layout *layout, uint8_t *step, uint32_t more)
 {
-    const uint32_t cpsr = pomurica_get_word(block_before(step), POMURICA_PLACE_CPSR);
+    const uint32_t cpsr = pomurica_get_word(step - layout->block_size, POMURICA_PLACE_CPSR);
 
-    for (uint32_t i = 1; i < more; i++, step += POMURICA_STEP_SIZE)
-        record_step(step, POMURICA_EVENT_NOTE, POMURICA_PLACE_CPSR,
+    for (uint32_t i = 1; i < more; i++, step += layout->step_size)
+        record_step(layout, step, POMURICA_EVENT_NOTE, POMURICA_PLACE_CPSR,
                     (cpsr & ~POMURICA_CPSR_MODE) | MODES[input->trace[i % input->length] % MODE_COUNT]);
-    record_step(step, POMURICA_EVENT_NOTE, POMURICA_PLACE_CPSR, cpsr);
+    record_step(layout, step, POMURICA_EVENT_NOTE, POMURICA_PLACE_CPSR, cpsr);
 }
 
 /* A count above the most is left as it is. */
@@ -72,11 +74,19 @@ static void count_more(uint8_t *record, uint32_t more)
         pomurica_put_word(record, POMURICA_RECORD_COUNT, count + more);
 }
 
+/* The layout of the bytes, by the kind that they open with, if they do. */
+static const struct layout *layout_of_input(const struct input *input)
+{
+    return input->length < sizeof(uint32_t) ? old_layout() : layout_of(input->trace);
+}
+
 /* The bytes as they are, or the Start, the Steps to be put before the others, and the rest. */
 uint8_t *take_trace(const struct input *input, size_t *length)
 {
-    const uint32_t more = input->length < POMURICA_START_SIZE + POMURICA_END_SIZE ? 0 : 10 * input->tens;
-    const size_t added = (size_t)more * POMURICA_STEP_SIZE;
+    const struct layout *const layout = layout_of_input(input);
+    const size_t start = layout->start_size;
+    const uint32_t more = input->length < start + POMURICA_END_SIZE ? 0 : 10 * input->tens;
+    const size_t added = (size_t)more * layout->step_size;
     uint8_t *trace;
 
     *length = input->length + added;
@@ -85,9 +95,9 @@ uint8_t *take_trace(const struct input *input, size_t *length)
         memcpy(trace, input->trace, input->length);
         return trace;
     }
-    memcpy(trace, input->trace, POMURICA_START_SIZE);
-    record_more(input, trace + POMURICA_START_SIZE, more);
-    memcpy(trace + POMURICA_START_SIZE + added, input->trace + POMURICA_START_SIZE, input->length - POMURICA_START_SIZE);
+    memcpy(trace, input->trace, start);
+    record_more(input, layout, trace + start, more);
+    memcpy(trace + start + added, input->trace + start, input->length - start);
     count_more(trace, more);
     count_more(trace + *length - POMURICA_END_SIZE, more);
     return trace;

@@ -8,6 +8,7 @@
 #include "chance.h"
 #include "traces.h"
 
+#include "../host/layout.h"
 #include "../host/record.h"
 
 #include <stdbool.h>
@@ -19,8 +20,9 @@ size_t LLVMFuzzerMutate(uint8_t *bytes, size_t size, size_t most);
 
 enum { MOST_NAME = 64, MOST_EVENTS = 64 };
 
-/* What happened. */
+/* What happened, and in which layout it is told; in the old one HDCR is 0. */
 struct story {
+    const struct layout *layout;
     uint8_t block[POMURICA_BLOCK_SIZE];
     struct event events[MOST_EVENTS];
     uint32_t count;
@@ -49,7 +51,7 @@ static size_t smaller(size_t one, size_t other)
 
 /* Words at which something ends or begins: operands, places, cells, parts of a value, counts. */
 static const uint32_t LIMITS[] = {
-    0, 1, 2, 3, 4, 8, 9, 13, 14, 31, 32, 43, 44, 63, 64, 0x60000, 0x70000,
+    0, 1, 2, 3, 4, 5, 8, 9, 13, 14, 31, 32, 43, 44, 45, 63, 64, POMURICA_HDCR_TDE, 0x60000, 0x70000,
     POMURICA_MOST_STEPS, POMURICA_MOST_STEPS + 1, UINT32_MAX,
 };
 
@@ -67,14 +69,18 @@ static uint32_t other_word(struct chance *chance, uint32_t word)
 /* From whatever bytes: a start block, where they have one, and an event of each whole record behind it. */
 static void read_story(struct chance *chance, const struct draft *draft, struct story *story)
 {
+    const struct layout *const layout = draft->length < sizeof(uint32_t) ? old_layout() : layout_of(draft->trace);
+
+    story->layout = layout;
     story->count = 0;
-    if (draft->length < POMURICA_START_SIZE) {
+    memset(story->block, 0, sizeof story->block);
+    if (draft->length < layout->start_size) {
         any_block(chance, story->block);
         return;
     }
-    memcpy(story->block, block_before(draft->trace + POMURICA_START_SIZE), sizeof story->block);
-    while (story->count < MOST_EVENTS && step_place(story->count + 1) <= draft->length) {
-        const uint8_t *const step = draft->trace + step_place(story->count);
+    memcpy(story->block, draft->trace + layout->start_size - layout->block_size, layout->block_size);
+    while (story->count < MOST_EVENTS && step_place(draft->trace, story->count + 1) <= draft->length) {
+        const uint8_t *const step = step_at(draft->trace, story->count);
 
         story->events[story->count++] = (struct event){
             pomurica_get_word(step, POMURICA_STEP_CODE), pomurica_get_word(step, POMURICA_STEP_A),
@@ -86,18 +92,19 @@ static void read_story(struct chance *chance, const struct draft *draft, struct 
 /* The honest trace of a story, as far as there is room. */
 static void write_story(const struct story *story, struct draft *draft)
 {
-    const size_t room = draft->most - POMURICA_START_SIZE - POMURICA_END_SIZE;
-    const uint32_t count = (uint32_t)smaller(story->count, room / POMURICA_STEP_SIZE);
-    uint8_t *const end = draft->trace + step_place(count);
+    const struct layout *const layout = story->layout;
+    const size_t room = draft->most - layout->start_size - POMURICA_END_SIZE;
+    const uint32_t count = (uint32_t)smaller(story->count, room / layout->step_size);
+    uint8_t *at = draft->trace + layout->start_size;
 
-    pomurica_put_word(draft->trace, POMURICA_RECORD_HEAD, POMURICA_START_SIZE | POMURICA_KIND_START << 16);
+    pomurica_put_word(draft->trace, POMURICA_RECORD_HEAD, layout->start_size | layout->start_kind << 16);
     pomurica_put_word(draft->trace, POMURICA_RECORD_COUNT, count);
-    memcpy(draft->trace + POMURICA_START_SIZE - POMURICA_BLOCK_SIZE, story->block, POMURICA_BLOCK_SIZE);
-    for (uint32_t i = 0; i < count; i++)
-        record_step(draft->trace + step_place(i), story->events[i].code, story->events[i].a, story->events[i].b);
-    pomurica_put_word(end, POMURICA_RECORD_HEAD, POMURICA_END_SIZE | POMURICA_KIND_END << 16);
-    pomurica_put_word(end, POMURICA_RECORD_COUNT, count);
-    draft->length = step_place(count) + POMURICA_END_SIZE;
+    memcpy(at - layout->block_size, story->block, layout->block_size);
+    for (uint32_t i = 0; i < count; i++, at += layout->step_size)
+        record_step(layout, at, story->events[i].code, story->events[i].a, story->events[i].b);
+    pomurica_put_word(at, POMURICA_RECORD_HEAD, POMURICA_END_HEAD);
+    pomurica_put_word(at, POMURICA_RECORD_COUNT, count);
+    draft->length = (size_t)(at - draft->trace) + POMURICA_END_SIZE;
 }
 
 static void change_block(struct chance *chance, uint8_t *block)
@@ -145,7 +152,7 @@ static void change_story(struct chance *chance, struct story *story)
 static uint8_t *any_place(struct chance *chance, struct draft *draft)
 {
     const uint32_t step = any_below(chance, (uint32_t)draft->length / POMURICA_STEP_SIZE + 1);
-    const uint32_t place = step_place(step) + 4 * any_below(chance, POMURICA_STEP_BLOCK);
+    const uint32_t place = step_place(draft->trace, step) + 4 * any_below(chance, POMURICA_STEP_BLOCK);
 
     if (one_in(chance, 2) && place + 4 <= draft->length)
         return draft->trace + place;
@@ -184,6 +191,8 @@ static void change_trace(struct chance *chance, struct draft *draft)
     struct story story;
 
     read_story(chance, draft, &story);
+    if (one_in(chance, 32))
+        story.layout = story.layout->old ? new_layout() : old_layout();
     do
         change_story(chance, &story);
     while (one_in(chance, 2));
@@ -197,7 +206,7 @@ static void replace_trace(struct chance *chance, struct draft *draft)
 {
     struct expected expected;
 
-    draft->length = make_trace(chance, (enum damage)any_below(chance, DAMAGES), draft->trace, &expected);
+    draft->length = make_either(chance, (enum damage)any_below(chance, DAMAGES), draft->trace, &expected);
     draft->length = smaller(draft->length, draft->most);
 }
 
@@ -248,7 +257,7 @@ size_t LLVMFuzzerCustomMutator(uint8_t *data, size_t size, size_t most, unsigned
 {
     static struct draft draft;
     const struct input input = parts_of(data, size);
-    struct chance chance = { seed };
+    struct chance chance = { .seed = seed };
 
     if (most < 2 + MOST_NAME + POMURICA_START_SIZE + POMURICA_END_SIZE)
         return LLVMFuzzerMutate(data, size, most);

@@ -33,6 +33,16 @@ void group(const char *name)
     held_here = broken_here = 0;
 }
 
+void group_of(const char *of, const char *name)
+{
+    static char whole[200]; /* the name of the group before, perhaps */
+
+    close_group();
+    open_group = NULL;
+    snprintf(whole, sizeof whole, "%s: %s", of, name);
+    group(whole);
+}
+
 bool check(bool held, const char *what, ...)
 {
     va_list arguments;

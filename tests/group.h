@@ -9,11 +9,14 @@
 
 /* A buffer is lent with every length up to this, where every length is tried. */
 enum {
-    LONGEST_TRIED = 200
+    LONGEST_TRIED = 210
 };
 
 /* Closes the group before, if any, and opens one. */
 void group(const char *name);
+
+/* The same, of one that is there for several things: "old layout: wrong counts". */
+void group_of(const char *of, const char *name);
 
 /*
  * One check of the open group; tells what did not hold, the first ten times, and the end of the group how many more there

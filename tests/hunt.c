@@ -116,7 +116,7 @@ static bool do_traces_differ(struct chance *chance, unsigned long traces)
     struct expected expected;
 
     for (unsigned long i = 0; i < traces; i++) {
-        const size_t length = make_trace(chance, (enum damage)(i % DAMAGES), trace, &expected);
+        const size_t length = make_either(chance, (enum damage)(i % DAMAGES), trace, &expected);
 
         if (i % A_FEW_TRACES == 0)
             alarm(PATIENCE);
@@ -246,7 +246,7 @@ static bool do_closings_differ(struct chance *chance, struct both *both)
 static bool do_runs_differ(struct chance *chance, struct both *both, const uint8_t *trace, size_t at, size_t length)
 {
     while (at < length) {
-        const size_t cut = any_cut(chance, at, length);
+        const size_t cut = any_cut(chance, trace, at, length);
 
         if (do_feedings_differ(both, trace + at, cut - at))
             return true;
@@ -329,7 +329,7 @@ static bool do_longest_records_differ(struct chance *chance)
 
 int main(int argc, char **argv)
 {
-    struct chance chance;
+    struct chance chance = { .seed = 0 };
     unsigned long steps, lists, traces, counted, sessions, recorded;
 
     if (argc != 8) {

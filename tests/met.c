@@ -6,7 +6,7 @@ struct met met;
 
 /* The words of a block that steer. */
 struct steering {
-    uint32_t cpsr, mode, scr, hcr;
+    uint32_t cpsr, mode, scr, hcr, hdcr;
     bool non_secure;
 };
 
@@ -16,6 +16,7 @@ static struct steering steering_of(const uint8_t *block)
         .cpsr = get_word(block + 4 * CPSR),
         .scr = get_word(block + 4 * SCR),
         .hcr = get_word(block + 4 * HCR),
+        .hdcr = get_word(block + 4 * HDCR),
     };
 
     words.mode = words.cpsr & CPSR_MODE;
@@ -65,12 +66,19 @@ static void count_rows(const struct steering *before, uint32_t lines)
     }
 }
 
+static bool is_debug(const struct event *event)
+{
+    return event->code == CODE_PREFETCH_ABORT && event->a == ABORT_DEBUG;
+}
+
 /* The way of an abort to Monitor or Hyp. */
 static enum way way_of_abort(const struct event *event, uint32_t target, bool by_tge)
 {
     const bool is_prefetch = event->code == CODE_PREFETCH_ABORT;
     const bool is_stage_2 = (event->a & ABORT_STAGE_2) != 0;
 
+    if (is_debug(event))
+        return target == MODE_HYP ? DEBUG_TO_HYP : WAYS;
     if (target == MODE_MONITOR && is_stage_2)
         return STAGE_2_BY_EA;
     if (target == MODE_MONITOR)
@@ -161,6 +169,31 @@ static void count_call(enum call_kind kind, const struct steering *before, const
                           ((before->hcr & HCR_TSC) != 0 ? WITH_TSC : 0u);
 
     met.call[kind][caller_of(before)][bits][end_of(kind, call)]++;
+}
+
+/* A done debug abort, by the offset that its value has. */
+static void count_debug(const struct steering *before, uint32_t value)
+{
+    const bool tge = (before->hcr & HCR_TGE) != 0, tde = (before->hdcr & HDCR_TDE) != 0;
+    const enum debug_end end = (value >> 8 & CPSR_MODE) != MODE_HYP ? DEBUG_ABORT
+                               : (value & 0xFF) == 0x14             ? DEBUG_HYP
+                                                                    : DEBUG_IN_HYP;
+
+    met.debug[before->mode][before->scr & SCR_NS][tge][tde][end]++;
+}
+
+/* What only the block with HDCR knows, on a good block. */
+static void count_new(const struct event *event, const struct steering *before, const struct call *call)
+{
+    const bool is_beside = event->code == CODE_PREFETCH_ABORT && event->a > ABORT_DEBUG && event->a < 2 * ABORT_DEBUG;
+    const bool tde = (before->hdcr & HDCR_TDE) != 0;
+
+    if (is_debug(event) && call->number == DONE)
+        count_debug(before, get_word(bytes_of(&call->answer) + 4));
+    if (is_beside && event->b == 0 && call->number == BAD_EVENT)
+        met.beside_debug[event->a - ABORT_DEBUG]++;
+    if (event->code == CODE_NOTE && event->a == HDCR && call->number == DONE)
+        met.note_on_hdcr[tde] += ((event->b ^ before->hdcr) & HDCR_TDE) != 0;
 }
 
 /* Operands at the ends of their ranges, on a good block; the other operand is in its range. */
@@ -302,8 +335,10 @@ void count_step(const struct question *question, const struct call *call)
         count_note(question, &before);
     if (event->code == CODE_RETURN && faults_of(&before) == 0)
         count_return(question, &before, call);
-    if (number == DONE || number >= BAD_EVENT)
+    if (number == DONE || number >= BAD_EVENT) {
         count_operands(event);
+        count_new(event, &before, call);
+    }
     if (number == DONE || number >= NOT_HERE) {
         met.judged[event->code][before.mode]++;
         if (event->code == CODE_BANKED_READ || event->code == CODE_BANKED_WRITE)

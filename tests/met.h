@@ -1,8 +1,9 @@
 /*
  * What a comparison of steps met, and how often: numbers, entries and the ways
- * to them, calls by the bits that decide them, returns, legal and illegal, by
- * what decides them, operands at the ends of their ranges, notes refused for the
- * block they would make, and every right to a banked register.
+ * to them, calls by the bits that decide them, debug aborts by what decides them,
+ * returns, legal and illegal, by what decides them, operands at the ends of their
+ * ranges, notes refused for the block they would make, and every right to a
+ * banked register.
  */
 #ifndef MET_H
 #define MET_H
@@ -26,6 +27,7 @@ enum way {
     PREFETCH_ABORT_BY_EA, DATA_ABORT_BY_EA, STAGE_2_BY_EA,
     STAGE_2_TO_HYP,
     UNDEFINED_BY_TGE, SVC_BY_TGE, PREFETCH_ABORT_BY_TGE, DATA_ABORT_BY_TGE, INTERRUPT_BY_TGE,
+    DEBUG_TO_HYP,
     WAYS
 };
 
@@ -46,6 +48,15 @@ enum call_end {
     CALL_NOT_HERE, CALL_TAKEN, CALL_TRAPPED, CALL_DISABLED,
     CALL_ENDS
 };
+
+/* A debug abort, and where it leads: to Abort; to Hyp from another mode, at 0x14; from Hyp itself. */
+enum debug_end {
+    DEBUG_ABORT, DEBUG_HYP, DEBUG_IN_HYP,
+    DEBUG_ENDS
+};
+
+/* A Prefetch Abort that says more than debug: with 1, 2 or both. */
+enum { BESIDE_DEBUG = 4 };
 
 /* A done return; and what its operands alone come to: A of 0 to 9, each, any that is larger, and a right A with a B. */
 enum return_end {
@@ -113,6 +124,9 @@ struct met {
     unsigned long which[WHICH_COUNT];
     unsigned long way[WAYS + 1];
     unsigned long call[CALL_KINDS][CALLERS][CALL_BITS][CALL_ENDS];
+    unsigned long debug[MODE_NUMBERS][2][2][2][DEBUG_ENDS]; /* by mode, NS, TGE and TDE */
+    unsigned long beside_debug[BESIDE_DEBUG];               /* by what stands beside it: BAD_EVENT */
+    unsigned long note_on_hdcr[2];                          /* by TDE before: done, and TDE changes */
     struct returns_met returns;
     unsigned long nothing_taken;
     unsigned long row[ROWS]; /* an exception is pending, its mask bit is 1, the row decides */

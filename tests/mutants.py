@@ -10,20 +10,23 @@ SCRIPT = os.path.abspath(sys.argv[1])
 # count.
 # Of a disabled call: the refusal gone, the trap forgotten, SMC by the bit of HVC, HVC by the bit of SMC.
 # Of a return: each row of the list of illegal ones gone, IL forgotten, an odd address, A from Hyp, a saved word not looked at.
+# Of debug and the layouts: another A, HDCR not asked, a state where it does not go to Hyp, known in the old layout,
+# unknown in the new one, a kind above the new Start's.
 # Of the batch: an answer too many, more events than answers, an event left out.
 # Of the counts: a code too few, refused Steps counted as done, a sum that just fits, room that just does.
-# Of a session: the most Steps refused, a byte too many held, a head judged too often, a block kept, a feeding after closing.
+# Of a session: the most Steps refused, the other layout, a byte too many held, a head judged too often, a block kept,
+# a feeding after closing.
 # Of a recording: the most events refused, room that just does, bytes before the offset as room, no end of the buffer, no kind.
 KILLED = [
     *(f'LARGEST: [CODE_{code}] = {{ {a}, [[0 => 1]] }},' for code, a in [
-        ('UNDEFINED', 0), ('SVC', 0), ('SMC', 0), ('HVC', 0), ('PREFETCH_ABORT', 3), ('DATA_ABORT', 3), ('HYP_TRAP', 0),
+        ('UNDEFINED', 0), ('SVC', 0), ('SMC', 0), ('HVC', 0), ('PREFETCH_ABORT', 4), ('DATA_ABORT', 3), ('HYP_TRAP', 0),
         ('MONITOR_TRAP', 0), ('INTERRUPT_CHECK', 31), ('BANKED_READ', 63), ('RETURN', 8)]),
     'masks_of_hyp: [[masks |= CPSR_F => ]];',
     'refusal_of: [[return NO_RIGHT => ]];',
     'refusal_of: [[return OWN_REGISTER => ]];',
     'offset_of: if ([[target == MODE_HYP && mode_of(block) != MODE_HYP && exception != IRQ && exception != FIQ => not]])',
     'act: [[case CODE_NOTE: => ]]',
-    'second_step: if (number == DONE [[&& => ||]] code == CODE_NOTE)',
+    'second_step_in: if (number == DONE [[&& => ||]] event.code == CODE_NOTE)',
     'refusal_of: [[return DISABLED => ]];',
     'is_disabled: return !is_smc_trapped(block) [[&& => ||]] is_one(block, SCR, SCR_SCD);',
     'is_disabled: return !is_smc_trapped(block) && is_one(block, SCR, [[SCR_SCD => SCR_HCE]]);',
@@ -36,6 +39,12 @@ KILLED = [
     'pc_of_return: return with(address_of_return(block, a), t ? [[1 => 0]] : 3, false);',
     'is_taken_off: [[return a == 0 => ]];',
     'refusal_of: [[return BAD_STATE => ]];',
+    'is_debug: return event->code == CODE_PREFETCH_ABORT && event->a == [[ABORT_DEBUG => ABORT_STAGE_2]];',
+    'is_debug_to_hyp: return is_debug(event) [[&& => ||]] is_one(block, HDCR, HDCR_TDE);',
+    'is_debug_to_hyp: if ([[is_secure(block) || mode_of(block) == MODE_HYP => not]])',
+    'is_unknown_in: return is_debug(event) [[|| => &&]] (event->code == CODE_NOTE && event->a == HDCR);',
+    'is_unknown_in: if (layout == [[OLD_LAYOUT => NEW_LAYOUT]])',
+    'second_layout_of: return get_half(header + 2) [[== => >=]] START[NEW_LAYOUT].kind ? NEW_LAYOUT : OLD_LAYOUT;',
     'judge: if (n [[> => >=]] MOST_STEPS) {',
     'second_batch: for (size_t i = 0; i [[< => <=]] events_len; i++)',
     'second_batch: if (events_len [[!= => <]] answers_len || block_len != BLOCK_SIZE)',
@@ -45,7 +54,8 @@ KILLED = [
     'would_pass: if (more->word[i] [[> => >=]] UINT32_MAX - before->word[i])',
     'second_count_lines: if (lines_len [[< => <=]] text.length)',
     'take_start: if (n [[> => >=]] MOST_STEPS)',
-    'take_byte: if (session->held [[>= => >]] due.length)',
+    'take_start: session->stage = layout == [[OLD_LAYOUT => NEW_LAYOUT]] ? STAGE_OLD_NEXT : STAGE_NEXT;',
+    'take_byte: if (session->held [[>= => >]] record_due(session).length)',
     'take_byte: if (session->held [[== => >=]] HEADER_SIZE && !second_is_due(session->unfinished, due))',
     'keep_fault: [[memset(session->block, 0, sizeof session->block) => ]];',
     'second_feed: [[return CLOSED => ]];',

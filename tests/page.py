@@ -3,7 +3,7 @@ import html.parser
 import re
 import struct
 
-from records import BLOCK_SIZE, PLACES, STEP_BLOCK, STEP_EVENT
+from records import STEP_BLOCK, STEP_EVENT, layout_of
 from sentences import NUMBER, REGISTERS, SAID, any_of
 from status import differing_fields
 
@@ -35,7 +35,9 @@ def may_be(patterns, name, text):
 
 def changed_words(trace, place):
     """The rows that the page has to have for the Step at a place that is not wrong."""
-    before, after = (struct.unpack_from(f'<{PLACES}I', trace, at) for at in (place - BLOCK_SIZE, place + STEP_BLOCK))
+    form = layout_of(trace)
+    blocks = place - form.block_size, place + STEP_BLOCK
+    before, after = (struct.unpack_from(f'<{form.places}I', trace, at) for at in blocks)
     changed = zip(REGISTERS, before, after)
     return [[name, f'0x{old:08X}', f'0x{new:08X}'] for name, old, new in changed if old != new]
 

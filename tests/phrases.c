@@ -1,8 +1,9 @@
 /*
  * The words that host/phrases.c and host/status.c have, held against the step:
  * the register that each A of a banked access names is the one that the step
- * reads and writes, an event is said to be bad where the step refuses it, a call
- * to be disabled where the step says so, and a return to go on where it does.
+ * reads and writes, an event is said to be bad where the step refuses it, in the
+ * old layout where that does not know it too, a call to be disabled where the
+ * step says so, and a return to go on where it does.
  */
 #define _POSIX_C_SOURCE 200809L
 
@@ -86,7 +87,7 @@ static void try_cell(uint32_t a)
           banked_name(a) == NULL ? "no register" : banked_name(a));
 }
 
-/* A Step behind the block before it, as both lie in a trace. */
+/* A Step behind the block before it, as both lie in a trace of the new layout. */
 struct in_trace {
     uint8_t bytes[POMURICA_BLOCK_SIZE + POMURICA_STEP_SIZE];
 };
@@ -104,16 +105,26 @@ static struct in_trace step_of(struct pomurica_event event, uint32_t mode, uint3
 
     fill_block(step.bytes, mode, scr);
     pomurica_put_word(step.bytes, POMURICA_PLACE_HCR, hcr);
+    pomurica_put_word(words, POMURICA_RECORD_HEAD, POMURICA_STEP_HEAD);
     pomurica_put_word(words, POMURICA_STEP_CODE, event.code);
     pomurica_put_word(words, POMURICA_STEP_A, event.a);
     pomurica_put_word(words, POMURICA_STEP_B, event.b);
     return step;
 }
 
-/* What is said of an event from a mode; NULL where there is no memory.  The caller frees it. */
-static char *said_from(uint32_t mode, struct pomurica_event event)
+/* The same Step in a trace of the old layout: its block, without HDCR, ends where it begins. */
+static struct in_trace in_old_trace(struct in_trace step)
 {
-    const struct in_trace step = step_of(event, mode, POMURICA_SCR_NS, 0);
+    const size_t hdcr = POMURICA_BLOCK_SIZE - POMURICA_OLD_BLOCK_SIZE;
+
+    memmove(step.bytes + hdcr, step.bytes, POMURICA_OLD_BLOCK_SIZE);
+    pomurica_put_word(step.bytes + POMURICA_BLOCK_SIZE, POMURICA_RECORD_HEAD, POMURICA_OLD_STEP_HEAD);
+    return step;
+}
+
+/* What is said of the event of a Step; NULL where there is no memory.  The caller frees it. */
+static char *said_of(struct in_trace step)
+{
     char *said = NULL;
     size_t length = 0;
     FILE *const out = open_memstream(&said, &length);
@@ -123,6 +134,17 @@ static char *said_from(uint32_t mode, struct pomurica_event event)
     tell_event(out, step_in(&step));
     fclose(out);
     return said;
+}
+
+/* The same of an event from a mode. */
+static char *said_from(uint32_t mode, struct pomurica_event event)
+{
+    return said_of(step_of(event, mode, POMURICA_SCR_NS, 0));
+}
+
+static char *said_in_old(uint32_t mode, struct pomurica_event event)
+{
+    return said_of(in_old_trace(step_of(event, mode, POMURICA_SCR_NS, 0)));
 }
 
 static void expect_said_from(uint32_t mode, struct pomurica_event event, const char *due)
@@ -139,10 +161,23 @@ static void expect_said(uint32_t code, uint32_t a, uint32_t b, const char *due)
     expect_said_from(POMURICA_MODE_SUPERVISOR, (struct pomurica_event){ code, a, b }, due);
 }
 
+static void expect_said_in_old(uint32_t code, uint32_t a, uint32_t b, const char *due)
+{
+    char *const said = said_in_old(POMURICA_MODE_SUPERVISOR, (struct pomurica_event){ code, a, b });
+
+    if (said != NULL)
+        check(strcmp(said, due) == 0, "said of an old Step: %s", said);
+    free(said);
+}
+
 static void try_sentences(void)
 {
     expect_said(POMURICA_EVENT_UNDEFINED, 0, 0, "Undefined Instruction");
     expect_said(POMURICA_EVENT_PREFETCH_ABORT, POMURICA_ABORT_EXTERNAL, 0, "external Prefetch Abort");
+    expect_said(POMURICA_EVENT_PREFETCH_ABORT, POMURICA_ABORT_DEBUG, 0, "debug Prefetch Abort");
+    expect_said(POMURICA_EVENT_NOTE, POMURICA_PLACE_HDCR, 0x100, "note: HDCR becomes 0x00000100");
+    expect_said_in_old(POMURICA_EVENT_PREFETCH_ABORT, 3, 0, "external Prefetch Abort of stage 2");
+    expect_said_in_old(POMURICA_EVENT_NOTE, POMURICA_PLACE_MVBAR, 7, "note: MVBAR becomes 0x00000007");
     expect_said(POMURICA_EVENT_DATA_ABORT, POMURICA_ABORT_EXTERNAL | POMURICA_ABORT_STAGE_2, 0,
                 "external Data Abort of stage 2");
     expect_said(POMURICA_EVENT_INTERRUPT_CHECK, 0, 0, "interrupt check, no line");
@@ -165,7 +200,12 @@ static void try_bad_operands(void)
     expect_said(POMURICA_EVENT_SVC, 1, 9, "SVC, A 1, which must be 0, B 9, which must be 0");
     expect_said(POMURICA_EVENT_SMC, 1, 0, "SMC, A 1, which must be 0");
     expect_said(POMURICA_EVENT_HVC, 1, 0, "HVC, A 1, which must be 0");
-    expect_said(POMURICA_EVENT_PREFETCH_ABORT, 7, 0, "Prefetch Abort, A 7, above 3");
+    expect_said(POMURICA_EVENT_PREFETCH_ABORT, 5, 0, "Prefetch Abort, A 5, above 4");
+    expect_said(POMURICA_EVENT_PREFETCH_ABORT, 7, 0, "Prefetch Abort, A 7, above 4");
+    expect_said(POMURICA_EVENT_PREFETCH_ABORT, 4, 9, "debug Prefetch Abort, B 9, which must be 0");
+    expect_said_in_old(POMURICA_EVENT_PREFETCH_ABORT, 4, 0, "Prefetch Abort, A 4, above 3");
+    expect_said_in_old(POMURICA_EVENT_PREFETCH_ABORT, 7, 0, "Prefetch Abort, A 7, above 3");
+    expect_said_in_old(POMURICA_EVENT_NOTE, POMURICA_PLACE_HDCR, 7, "note of 0x00000007, A 44, above 43");
     expect_said(POMURICA_EVENT_DATA_ABORT, 4, 0, "Data Abort, A 4, above 3");
     expect_said(POMURICA_EVENT_DATA_ABORT, 3, 9, "external Data Abort of stage 2, B 9, which must be 0");
     expect_said(POMURICA_EVENT_HYP_TRAP, 1, 0, "Hyp Trap, A 1, which must be 0");
@@ -175,7 +215,7 @@ static void try_bad_operands(void)
     expect_said(POMURICA_EVENT_BANKED_READ, 64, 0, "banked read, A 64, above 63");
     expect_said(POMURICA_EVENT_BANKED_READ, 18, 9, "banked read of LR_svc, B 9, which must be 0");
     expect_said(POMURICA_EVENT_BANKED_WRITE, 0xFFFFFFFF, 7, "banked write of 0x00000007, A 4294967295, above 63");
-    expect_said(POMURICA_EVENT_NOTE, POMURICA_PLACES, 7, "note of 0x00000007, A 44, above 43");
+    expect_said(POMURICA_EVENT_NOTE, POMURICA_PLACES, 7, "note of 0x00000007, A 45, above 44");
     expect_said(POMURICA_EVENT_RETURN, 3, 0, "exception return, A 3, which must be 0, 2, 4 or 8");
     expect_said(POMURICA_EVENT_RETURN, 16, 9, "exception return, A 16, which must be 0, 2, 4 or 8, B 9, which must be 0");
     expect_said(POMURICA_EVENT_RETURN, 4, 9, "exception return, LR less 4, B 9, which must be 0");
@@ -185,26 +225,48 @@ static void try_bad_operands(void)
     expect_said(POMURICA_EVENT_RETURN + 1, 0, 0, "event of code 14, which is none");
 }
 
-/* Whether the words say that an event is bad, and whether the step, from a good block of the mode, does. */
-static void try_event(uint32_t mode, struct pomurica_event event)
+/* Whether the words say that an event is bad exactly if it is; frees them. */
+static void expect_bad(uint32_t mode, struct pomurica_event event, bool bad, char *said)
 {
-    uint8_t block[POMURICA_BLOCK_SIZE], answer[POMURICA_ANSWER_SIZE];
-    char *const said = said_from(mode, event);
-    bool bad;
-
     if (said == NULL)
         return;
-    fill_block(block, mode, POMURICA_SCR_NS);
-    bad = pomurica_step(block, sizeof block, event.code, event.a, event.b, answer, sizeof answer) == POMURICA_BAD_EVENT;
     check(bad == (strstr(said, "must be 0") || strstr(said, "above") || strstr(said, "which is none")),
           "mode %x, code %u, A %u, B %u: %s", (unsigned)mode, (unsigned)event.code, (unsigned)event.a, (unsigned)event.b,
           said);
     free(said);
 }
 
+/* Whether the rules of its layout find the event of a Step bad, as find_due asks them. */
+static bool is_due_bad(struct in_trace step)
+{
+    struct due due;
+
+    find_due(step_in(&step), &due);
+    return pomurica_get_word(due.answer, POMURICA_ANSWER_NUMBER) == POMURICA_BAD_EVENT;
+}
+
+/* By the step from a good block of the mode; the old layout knows no debug abort and no place 44 besides. */
+static void try_event(uint32_t mode, struct pomurica_event event)
+{
+    const struct in_trace step = step_of(event, mode, POMURICA_SCR_NS, 0);
+    uint8_t block[POMURICA_BLOCK_SIZE], answer[POMURICA_ANSWER_SIZE];
+    bool bad, bad_in_old;
+
+    fill_block(block, mode, POMURICA_SCR_NS);
+    bad = pomurica_step(block, sizeof block, event.code, event.a, event.b, answer, sizeof answer) == POMURICA_BAD_EVENT;
+    bad_in_old = bad || (event.code == POMURICA_EVENT_PREFETCH_ABORT && event.a == POMURICA_ABORT_DEBUG) ||
+                 (event.code == POMURICA_EVENT_NOTE && event.a == POMURICA_PLACE_HDCR);
+    expect_bad(mode, event, bad, said_from(mode, event));
+    expect_bad(mode, event, bad_in_old, said_in_old(mode, event));
+    check(is_due_bad(step) == bad && is_due_bad(in_old_trace(step)) == bad_in_old,
+          "mode %x, code %u, A %u: due otherwise", (unsigned)mode, (unsigned)event.code, (unsigned)event.a);
+}
+
 static void try_events(uint32_t mode)
 {
-    static const uint32_t WORDS[] = { 0, 1, 2, 3, 4, 6, 7, 8, 9, 31, 32, 33, 43, 44, 63, 64, 256, 0x80000000, 0xFFFFFFFF };
+    static const uint32_t WORDS[] = {
+        0, 1, 2, 3, 4, 5, 6, 7, 8, 9, 31, 32, 33, 43, 44, 45, 63, 64, 256, 0x80000000, 0xFFFFFFFF
+    };
 
     for (uint32_t code = 0; code <= POMURICA_EVENT_RETURN + 2; code++)
         for (size_t i = 0; i < COUNT_OF(WORDS); i++)
@@ -285,6 +347,22 @@ static void try_outcomes(void)
     expect_outcome(&read, POMURICA_OWN_REGISTER, 0,
                    "refused with 17 OWN_REGISTER (its own register, reached by another instruction)");
     expect_outcome(&note, POMURICA_DONE, 0, "written");
+}
+
+/* What only the new layout knows, in both. */
+static void try_new_in_old(void)
+{
+    const struct pomurica_event events[] = {
+        { POMURICA_EVENT_PREFETCH_ABORT, POMURICA_ABORT_DEBUG, 0 }, { POMURICA_EVENT_NOTE, POMURICA_PLACE_HDCR, 7 },
+    };
+
+    for (size_t i = 0; i < COUNT_OF(events); i++) {
+        const struct in_trace step = step_of(events[i], POMURICA_MODE_SUPERVISOR, POMURICA_SCR_NS, 0);
+        const struct in_trace in_old = in_old_trace(step);
+
+        expect_outcome(&in_old, POMURICA_BAD_EVENT, 0, "refused with 4 BAD_EVENT (not known in the old layout)");
+        expect_outcome(&step, POMURICA_BAD_EVENT, 0, "refused with 4 BAD_EVENT");
+    }
 }
 
 /* The bits that the words of a disabled call go by, in every combination, and that of the trap which goes before SCD. */
@@ -528,6 +606,7 @@ int main(void)
         try_events(MODES[i]);
     group("what is said to come of an event");
     try_outcomes();
+    try_new_in_old();
     group("a call is said to be disabled, and why, exactly where the step answers DISABLED");
     try_calls();
     try_unjudged();

@@ -13,7 +13,8 @@ import tempfile
 
 sys.dont_write_bytecode = True
 from records import (  # noqa: E402
-    END_SIZE, LONGEST, SAMPLES, SHORTEST, START_SIZE, STEP_SIZE, accepted, end_record, length_of, long_trace, start_record)
+    END_SIZE, LONGEST, OLD, OLD_SHORTEST, SAMPLES, SHORTEST, START_SIZE, STEP_SIZE, accepted, end_record, layout_of,
+    length_of, long_trace, start_record)
 from runs import Live, Runs, comes_true, failing_file, is_taken, most_memory, read, write  # noqa: E402
 
 KIND, FOLDER, LINES, COMMAND = sys.argv[1], os.path.abspath(sys.argv[2]), os.path.abspath(sys.argv[3]), sys.argv[4:]
@@ -23,30 +24,40 @@ run, expect, expect_run = runs.run, runs.expect, runs.expect_run
 os.environ['ASAN_OPTIONS'] = 'detect_leaks=0'  # looking takes some 4 s a run on Arm; try_leaks does
 
 A_WHILE = 0.3  # seconds in which what must not come would have come
-HONEST, STALE = (read(os.path.join(SAMPLES, f'{name}.trace')) for name in ('honest', 'stale-spsr'))
+HONEST, HONEST_OLD, STALE, MIXED, TAKEN_IN_OLD = (
+    read(os.path.join(SAMPLES, f'{name}.trace')) for name in
+    ('honest', 'honest-old', 'stale-spsr', 'mixed-layouts', 'debug-taken-in-old'))
 HONEST_LINE = f'-: {accepted(HONEST)}\n'.encode()
-STALE_LINE = b'-: refused 11 WRONG_STEP at byte 1384 after 6 Steps\n'
-STALE_KNOWN = b'-: 11 WRONG_STEP known after 1584 bytes\n'
+STALE_LINE = b'-: refused 11 WRONG_STEP at byte 1412 after 6 Steps\n'
+STALE_KNOWN = b'-: 11 WRONG_STEP known after 1616 bytes\n'
 HEAD_SIZE = 4
 
-# With how many bytes a fault is known, from the first of the record at fault (document 02, No. 6).
-KNOWN_WITH = {9: lambda place: HEAD_SIZE, 10: lambda place: END_SIZE if place else START_SIZE, 11: lambda place: STEP_SIZE,
-              12: lambda place: 1}
+# With how many bytes a fault is known, from the first of the record at fault (document 02, No. 6), by the layout.
+KNOWN_WITH = {9: lambda place, form: HEAD_SIZE, 10: lambda place, form: END_SIZE if place else form.start_size,
+              11: lambda place, form: form.step_size, 12: lambda place, form: 1}
 
 # Traces with a fault: its number, its name, its place, and how many Steps were right.
 FAULTY = {
-    'no Start': (b'\xb8\0\2\0' + SHORTEST[4:], 9, 'BAD_RECORD', 0, 0),
+    'no Start': (b'\xbc\0\5\0' + SHORTEST[4:], 9, 'BAD_RECORD', 0, 0),
+    'the length of a new Start, and the kind of an old one': (b'\xbc\0\1\0' + SHORTEST[4:], 9, 'BAD_RECORD', 0, 0),
+    'the length of an old Start, and the kind of a new one': (b'\xb8\0\4\0' + OLD_SHORTEST[4:], 9, 'BAD_RECORD', 0, 0),
+    'a new Step behind an old Start': (MIXED, 9, 'BAD_RECORD', 984, 4),
+    'an old Start that counts too much': (start_record(LONGEST + 1, bytes(OLD.block_size), OLD) + end_record(0), 10,
+                                          'BAD_COUNT', 0, 0),
+    'a wrong Step of the old layout': (TAKEN_IN_OLD, 11, 'WRONG_STEP', 384, 1),
+    'two traces of the old layout': (HONEST_OLD + HONEST_OLD, 12, 'TRAILING', len(HONEST_OLD), 9),
     'no End': (SHORTEST[:START_SIZE] + bytes(END_SIZE), 9, 'BAD_RECORD', START_SIZE, 0),
     'a Start that counts too much': (start_record(LONGEST + 1) + end_record(0), 10, 'BAD_COUNT', 0, 0),
     'an End that counts otherwise': (HONEST[:-END_SIZE] + end_record(8), 10, 'BAD_COUNT', len(HONEST) - END_SIZE, 9),
-    'a wrong Step': (STALE, 11, 'WRONG_STEP', 1384, 6),
+    'a wrong Step': (STALE, 11, 'WRONG_STEP', 1412, 6),
     'two traces': (HONEST + HONEST, 12, 'TRAILING', len(HONEST), 9),
 }
 
 
-def known(name, number, number_name, place):
+def known(name, trace, number, number_name, place):
     """The line of --follow."""
-    return f'{name}: {number} {number_name} known after {place + KNOWN_WITH[number](place)} bytes\n'.encode()
+    last = place + KNOWN_WITH[number](place, layout_of(trace))
+    return f'{name}: {number} {number_name} known after {last} bytes\n'.encode()
 
 
 def live(*arguments, **options):
@@ -69,11 +80,12 @@ def try_pieces():
                 comes_true(lambda: is_taken(console.process.stdin))
             seen = end_of(console)
         expect(f'pieces of {size} bytes', seen == (0, HONEST_LINE, b''), seen)
-    with live('-') as console:
-        console.send(HONEST)
-        early = console.line(A_WHILE)
-        seen = end_of(console)
-    expect('no verdict before the end', early == b'' and seen == (0, HONEST_LINE, b''), (early, seen))
+    for name, trace in {'': HONEST, ', in the old layout': HONEST_OLD}.items():
+        with live('-') as console:
+            console.send(trace)
+            early = console.line(A_WHILE)
+            seen = end_of(console)
+        expect(f'no verdict before the end{name}', early == b'' and seen == (0, HONEST_LINE, b''), (early, seen))
 
 
 def try_sources():
@@ -105,7 +117,7 @@ def try_sources():
 def try_follow():
     """The line comes with the byte with which a fault is known, not before; the sender goes on, and the verdict comes last."""
     for name, (trace, number, number_name, place, steps) in FAULTY.items():
-        last = place + KNOWN_WITH[number](place) - 1
+        last = place + KNOWN_WITH[number](place, layout_of(trace)) - 1
         with live('--follow', '-') as console:
             console.send(trace[:last])
             early = console.line(A_WHILE)
@@ -115,7 +127,7 @@ def try_follow():
             console.send(trace[last + 1:] + bytes(1 << 20))
             seen = end_of(console)
         due = f'-: refused {number} {number_name} at byte {place} after {steps} Steps\n'.encode()
-        expect(f'{name}: told when it is known', line == known('-', number, number_name, place), line)
+        expect(f'{name}: told when it is known', line == known('-', trace, number, number_name, place), line)
         expect('not before, and no more until the end', (early, later) == (b'', b''), (early, later))
         expect('and the verdict, when the sender is done', seen == (1, due, b''), seen)
     with live('--follow', '/dev/zero') as console:
@@ -129,7 +141,7 @@ def followed(lines):
         name, number, number_name, place = re.fullmatch(
             r'(.*): (?:accepted.*|refused (\d+) (\w+) at byte (\d+) after .*)', line).groups()
         if number and int(number) in KNOWN_WITH:
-            yield known(name, int(number), number_name, int(place))
+            yield known(name, read(name), int(number), number_name, int(place))
         yield f'{line}\n'.encode()
 
 

@@ -56,7 +56,7 @@ static uint32_t count_of(const uint8_t *trace, uint32_t steps, size_t word)
     uint32_t count = 0;
 
     for (uint32_t i = 0; i < steps; i++)
-        count += NUMBER_BY[word / POMURICA_GROUP_SIZE](trace + step_place(i)) == word % POMURICA_GROUP_SIZE;
+        count += NUMBER_BY[word / POMURICA_GROUP_SIZE](step_at(trace, i)) == word % POMURICA_GROUP_SIZE;
     return count;
 }
 

@@ -48,6 +48,12 @@ static const struct pomurica_event MIXED[] = {
     { POMURICA_EVENT_BANKED_READ, 7, 0 },                                 /* NO_REGISTER */
     { POMURICA_EVENT_BANKED_READ, 62, 0 },                                /* OWN_REGISTER */
     { POMURICA_EVENT_BANKED_READ, 29, 0 },                                /* NO_RIGHT */
+    { POMURICA_EVENT_NOTE, POMURICA_PLACE_HDCR, POMURICA_HDCR_TDE },
+    { POMURICA_EVENT_PREFETCH_ABORT, 6, 0 },                              /* BAD_EVENT */
+    { POMURICA_EVENT_NOTE, POMURICA_PLACES, 0 },                          /* BAD_EVENT */
+    { POMURICA_EVENT_NOTE, POMURICA_PLACE_CPSR, POMURICA_MODE_USER },
+    { POMURICA_EVENT_PREFETCH_ABORT, POMURICA_ABORT_DEBUG, 0 },           /* enters Hyp by TDE */
+    { POMURICA_EVENT_NOTE, POMURICA_PLACE_HDCR, 0 },
     { POMURICA_EVENT_NOTE, POMURICA_PLACE_SCR, POMURICA_SCR_NS },
     { POMURICA_EVENT_NOTE, POMURICA_PLACE_CPSR, POMURICA_MODE_SUPERVISOR }, /* and again from there */
 };
@@ -149,7 +155,7 @@ static void expect_recorded(const struct recording *asked)
 
 /* ------------------------------------------------------- Written by hand */
 
-/* Worked case l: zeros and no event give the shortest trace, wherever it goes. */
+/* Worked case l in the new layout: zeros and no event give the shortest trace, wherever it goes. */
 static void do_case_l(void)
 {
     for (size_t before = 0; before <= AROUND; before++) {
@@ -172,19 +178,22 @@ enum {
 
 /* Worked case a, and then an event that there is not: all words that are not 0. */
 static const uint32_t BY_HAND[WORDS] = {
-    [START] = 0x000100B8, 2,
+    [START] = 0x000400BC, 2,
     [START + 2 + POMURICA_PLACE_CPSR] = 0x13, 0x8000, 1,
     [START + 2 + POMURICA_PLACE_VBAR_NS] = 0x10000000,
-    [STEP_1] = 0x000200C8, 9, 4, 0, 0, 0x31218,
+    [START + 2 + POMURICA_PLACE_HDCR] = 0x89ABCDEF,
+    [STEP_1] = 0x000500CC, 9, 4, 0, 0, 0x31218,
     [STEP_1 + 6 + POMURICA_PLACE_LR_IRQ] = 0x8004,
     [STEP_1 + 6 + POMURICA_PLACE_SPSR_IRQ] = 0x13,
     [STEP_1 + 6 + POMURICA_PLACE_CPSR] = 0x192, 0x10000018, 1,
     [STEP_1 + 6 + POMURICA_PLACE_VBAR_NS] = 0x10000000,
-    [STEP_2] = 0x000200C8, 0xFFFFFFFE, 0x01020304, 0xA0B0C0D0, 4, 0,
+    [STEP_1 + 6 + POMURICA_PLACE_HDCR] = 0x89ABCDEF,
+    [STEP_2] = 0x000500CC, 0xFFFFFFFE, 0x01020304, 0xA0B0C0D0, 4, 0,
     [STEP_2 + 6 + POMURICA_PLACE_LR_IRQ] = 0x8004,
     [STEP_2 + 6 + POMURICA_PLACE_SPSR_IRQ] = 0x13,
     [STEP_2 + 6 + POMURICA_PLACE_CPSR] = 0x192, 0x10000018, 1,
     [STEP_2 + 6 + POMURICA_PLACE_VBAR_NS] = 0x10000000,
+    [STEP_2 + 6 + POMURICA_PLACE_HDCR] = 0x89ABCDEF,
     [END] = 0x00030008, 2,
 };
 
@@ -194,6 +203,7 @@ static void do_by_hand(void)
     struct recording asked = recording_of(COUNT(TWO), 5, 5);
 
     asked.events = TWO;
+    pomurica_put_word(asked.block, POMURICA_PLACE_HDCR, 0x89ABCDEF);
     expect_recorded(&asked);
     for (size_t i = 0; i < WORDS; i++) {
         const uint32_t word = pomurica_get_word(recorded.buffer + asked.offset, i);
@@ -226,7 +236,9 @@ static const uint8_t *step_of(const struct recording *asked, size_t i)
 /* Each event of the mix answers what its comment says; those behind a refused one are done as if it were not there. */
 static void do_mixed(void)
 {
-    static const uint32_t NUMBERS[] = { 0, 0, 4, 4, 0, 2, 3, 0, 0, 0, 4, 0, 0, 16, 0, 16, 0, 5, 6, 17, 7, 0, 0 };
+    static const uint32_t NUMBERS[] = {
+        0, 0, 4, 4, 0, 2, 3, 0, 0, 0, 4, 0, 0, 16, 0, 16, 0, 5, 6, 17, 7, 0, 4, 4, 0, 0, 0, 0, 0
+    };
     const struct recording asked = recording_of(COUNT(MIXED), 1, 1);
 
     _Static_assert(COUNT(NUMBERS) == COUNT(MIXED), "a number for each event");
@@ -321,8 +333,8 @@ static void do_far_offsets(size_t count, size_t buffer_len)
 {
     const size_t size = POMURICA_TRACE_SIZE(count), behind_words = (size_t)UINT32_MAX + 1;
     const size_t offsets[] = {
-        SIZE_MAX - 7, SIZE_MAX - 191, SIZE_MAX - size, SIZE_MAX - size + SHORTEST_SIZE / 2, SIZE_MAX - buffer_len,
-        SIZE_MAX / 2, SIZE_MAX / 2 - size, SIZE_MAX / 4, SIZE_MAX / POMURICA_STEP_SIZE,
+        SIZE_MAX - 7, SIZE_MAX - SHORTEST_SIZE + 1, SIZE_MAX - size, SIZE_MAX - size + SHORTEST_SIZE / 2,
+        SIZE_MAX - buffer_len, SIZE_MAX / 2, SIZE_MAX / 2 - size, SIZE_MAX / 4, SIZE_MAX / POMURICA_STEP_SIZE,
         behind_words, behind_words + 16, behind_words + buffer_len - size, behind_words / 2, behind_words * 256 + 16
     };
 
@@ -452,7 +464,7 @@ static void run_refusals(void)
         do_far_offsets(count, SMALL_BUFFER);
     do_far_offsets(A_LONG_LIST, POMURICA_TRACE_SIZE(A_LONG_LIST) + AROUND);
     do_far_offsets(POMURICA_MOST_STEPS, SMALL_BUFFER);
-    group("every length of the block from 0 to 200 but its own: before any other refusal");
+    group("every length of the block from 0 to 210 but its own: before any other refusal");
     do_blocks();
     group("65,535 events, and more: refused before the room is asked for");
     do_counts();

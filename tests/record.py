@@ -94,9 +94,11 @@ def help_lists():
 
 
 def flags_of(form):
-    """The words of an event of which each may stand, `[FIQ] [IRQ]`, and those of which one may, `[less-2|less-4]`."""
+    """The words of an event of which each may stand, `[FIQ] [IRQ]`, and of which one, `[less-2|less-4]`, `| debug`."""
     groups = [operand.strip('[]').split('|') for operand in form if operand.startswith('[')]
-    return [words[0] for words in groups if len(words) == 1], [word for words in groups if len(words) > 1 for word in words]
+    alone = [word for before, word in zip(form, form[1:]) if before == '|']
+    return ([words[0] for words in groups if len(words) == 1],
+            [word for words in groups if len(words) > 1 for word in words] + alone)
 
 
 def try_help():
@@ -108,9 +110,11 @@ def try_help():
     expect('an event for each code of the header, and one in plain numbers',
            sorted(map(code_of, plain)) == list(range(1, len(plain) + 1)) and len(plain) == len(kinds('EVENT')), forms)
     expect('in the order of their codes', [code_of(word) for word in forms if word != 'event'] == sorted(map(code_of, plain)))
-    for word, kind in {'interrupt': 'LINE', 'prefetch-abort': 'ABORT', 'data-abort': 'ABORT'}.items():
-        flags = {flag.upper().replace('-', '_') for flag in flags_of(forms[word])[0]}
-        expect(f'every {kind} of the header, for {word}', flags == kinds(kind), flags)
+    for word, kind, none in (
+            ('interrupt', 'LINE', set()), ('prefetch-abort', 'ABORT', set()), ('data-abort', 'ABORT', {'DEBUG'})):
+        flags = {flag.upper().replace('-', '_') for flags in flags_of(forms[word]) for flag in flags}
+        expect(f'every {kind} of the header, for {word}', flags == kinds(kind) - none, flags)
+    expect('debug stands alone', flags_of(forms['prefetch-abort'])[1] == ['debug'], forms['prefetch-abort'])
     expect('what a return may take off', flags_of(forms['return']) == ([], ['less-2', 'less-4', 'less-8']), forms['return'])
     expect('every place, in order, by the name that the console shows', places == REGISTERS, places)
     expect('and it is the header\'s', [number_of('PLACE', place) for place in places] == list(range(PLACES)))
@@ -131,7 +135,8 @@ def try_events():
             due.append([code_of(word), sum(number_of(kind, flag) for flag in some), 0])
         for one in choice:
             script += f'{word} {one}\n'
-            due.append([code_of(word), int(one.removeprefix('less-')), 0])
+            amount = int(one.removeprefix('less-')) if one.startswith('less-') else number_of(kind, one)
+            due.append([code_of(word), amount, 0])
     expect(f'{len(due)} events without an operand or with words', events(script) == due and len(due) > 40, script)
     expect('note of every place', events(''.join(f'note {place} {7 * i}\n' for i, place in enumerate(REGISTERS))) ==
            [[code_of('note'), number_of('PLACE', place), 7 * i] for i, place in enumerate(REGISTERS)])
@@ -252,8 +257,16 @@ WRONG = [
     ('interrupt IRQ, FIQ', 1, 11, '`IRQ,`', LINE),
     ('interrupt irq', 1, 11, '`irq`', '`IRQ`'),
     ('interrupt external', 1, 11, '`external`', LINE),
-    ('prefetch-abort IRQ', 1, 16, '`IRQ`', 'a kind of abort (record --help lists them)'),
+    ('prefetch-abort IRQ', 1, 16, '`IRQ`', 'a kind of Prefetch Abort (record --help lists them)'),
     ('prefetch-abort stage_2', 1, 16, '`stage_2`', '`stage-2`'),
+    ('prefetch-abort Debug', 1, 16, '`Debug`', '`debug`'),
+    ('prefetch-abort debug external', 1, 22, '`external` beside another word', '`debug` alone'),
+    ('prefetch-abort external stage-2 debug', 1, 33, '`debug` beside another word', '`debug` alone'),
+    ('prefetch-abort debug debug', 1, 22, '`debug` a second time', TWICE),
+    ('prefetch-abort debug 4', 1, 22, '`4`', 'a kind of Prefetch Abort (record --help lists them)'),
+    ('data-abort debug', 1, 12, '`debug`', 'a kind of Data Abort (record --help lists them)'),
+    ('hdcr = 1', 1, 1, '`hdcr`', '`HDCR`'),
+    ('read HDCR', 1, 6, '`HDCR`', REGISTER),
     ('read', 1, 5, END, REGISTER),
     ('read # SP_usr', 1, 5, END, REGISTER),
     ('read CPSR', 1, 6, '`CPSR`', REGISTER),
@@ -363,10 +376,14 @@ def compare_checks(name, script):
 def any_event(dice, forms, registers):
     """An event of any word, in plain numbers too."""
     word, form = dice.choice(list(forms.items()))
+    if '|' in form:
+        form = dice.choice([form[:form.index('|')], form[form.index('|') + 1:]])
     out = [word]
     for operand in form:
         if operand.startswith('['):
             out += [dice.choice(operand.strip('[]').split('|'))] * dice.getrandbits(1)
+        elif operand.islower():
+            out.append(operand)
         else:
             out.append(dice.choice(registers) if operand == 'REGISTER' else dice.choice(REGISTERS) if operand == 'PLACE'
                        else str(dice.choice([0, 1, 2, 9, 12, 13, 31, 33, 0x10, 0x13, 0x1A, 2**31, MOST_WORD])))
@@ -448,7 +465,7 @@ def try_input():
     expect_run('a device without end', ['/dev/zero'], 2, b'', b'record: /dev/zero: more than 16777216 bytes, ')
     with failing_file(b'svc\n') as file:
         expect_run('a read that fails', ['-'], 2, b'', b'record: -: ', stdin=file)
-    expect_run('a trace as a script', [write('trace', SHORTEST)], 2, b'', b'trace:1:1: found byte 0xB8; expected ')
+    expect_run('a trace as a script', [write('trace', SHORTEST)], 2, b'', b'trace:1:1: found byte 0xBC; expected ')
     if os.getuid() == 0:
         return  # root may read every file
     os.chmod(write('locked', b'svc\n'), 0)

@@ -1,6 +1,7 @@
 /*
  * Holds the step against single steps recorded on an emulated core that
- * nobody here wrote.  The header of the file of rows explains its columns.
+ * nobody here wrote.  The header of the file of rows explains its columns.  Its
+ * blocks are of the old layout, and get a word of 0 behind them, HDCR.
  *
  *     recorded FILE
  */
@@ -59,12 +60,13 @@ static bool parse_word(const char *text, int base, uint32_t *word)
     return true;
 }
 
-/* The file: a block as 352 hex digits. */
+/* The file: a block as 352 hex digits; HDCR is 0. */
 static bool parse_block(const char *text, uint8_t *block)
 {
-    if (strlen(text) != 2 * POMURICA_BLOCK_SIZE)
+    if (strlen(text) != 2 * POMURICA_OLD_BLOCK_SIZE)
         return false;
-    for (size_t i = 0; i < POMURICA_BLOCK_SIZE; i++) {
+    pomurica_put_word(block, POMURICA_PLACE_HDCR, 0);
+    for (size_t i = 0; i < POMURICA_OLD_BLOCK_SIZE; i++) {
         const char digits[3] = { text[2 * i], text[2 * i + 1], '\0' };
         uint32_t byte;
 

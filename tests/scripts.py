@@ -265,8 +265,8 @@ def try_output(place):
         running = place.start('verdict', stdout=full)
         place.expect('output on a full disk', place.end(running), (2, '', 'verdict: the verdict could not be written'))
     place.expect('a closed output', place.run('sh', '-c', 'exec "$1" >&-', 'sh', place.path('verdict')), (2, ''))
-    for program, due in {'echo 0 192 0; exit 3': (2, ''), 'true': (2, ''), 'echo CANNOT READ': (2, 'CANNOT READ\n'),
-                         'echo 11 1384 6': (0, '11 1384 6\n')}.items():
+    for program, due in {'echo 0 196 0; exit 3': (2, ''), 'true': (2, ''), 'echo CANNOT READ': (2, 'CANNOT READ\n'),
+                         'echo 11 1412 6': (0, '11 1412 6\n')}.items():
         place.write('target/bin/verdict', f'#!/bin/sh\n{program}\n', 0o755)
         place.expect(f'a program that does: {program}', place.run('verdict'), due)
 

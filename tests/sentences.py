@@ -4,7 +4,7 @@ from status import FIELDS, MODES
 REGISTERS = ('R8_usr R9_usr R10_usr R11_usr R12_usr SP_usr LR_usr R8_fiq R9_fiq R10_fiq R11_fiq R12_fiq SP_fiq LR_fiq '
              'LR_irq SP_irq LR_svc SP_svc LR_abt SP_abt LR_und SP_und LR_mon SP_mon ELR_hyp SP_hyp SPSR_fiq SPSR_irq '
              'SPSR_svc SPSR_abt SPSR_und SPSR_mon SPSR_hyp CPSR PC SCR HCR SCTLR_s SCTLR_ns HSCTLR VBAR_s VBAR_ns '
-             'HVBAR MVBAR').split()
+             'HVBAR MVBAR HDCR').split()
 
 
 def any_of(*patterns):
@@ -17,6 +17,7 @@ ANSWER = f'{NUMBER} ' + any_of(*'DONE BAD_SIZE BAD_MODE BAD_STATE BAD_EVENT NOT_
                                'BAD_COUNT WRONG_STEP TRAILING FULL CLOSED NO_ROOM DISABLED OWN_REGISTER UNKNOWN'.split())
 REASONED = any_of(r'16 DISABLED \(HVC is disabled: SCR\.HCE is 0\)', r'16 DISABLED \(SMC is disabled: SCR\.SCD is 1\)',
                   r'3 BAD_STATE \(bits 24-21 of the saved word are not 0\)',
+                  r'4 BAD_EVENT \(not known in the old layout\)',
                   r'17 OWN_REGISTER \(its own register, reached by another instruction\)',
                   r'7 NO_RIGHT \((no banked register is accessible from User|not accessible from this mode and state)\)')
 REGISTER = any_of(*REGISTERS)
@@ -25,7 +26,7 @@ RECORD = any_of('the Start', 'a Step', 'the End')
 MODE = any_of(*MODES.values())
 LINE = any_of('SError', 'FIQ', 'IRQ', 'virtual FIQ', 'virtual IRQ')
 EVENT = any_of('Undefined Instruction', 'SVC', 'SMC', 'HVC', 'Hyp Trap', 'Monitor Trap',
-               '(external )?(Prefetch|Data) Abort( of stage 2)?',
+               '(external )?(Prefetch|Data) Abort( of stage 2)?', 'debug Prefetch Abort',
                'interrupt check, no line', f'interrupt check, lines {LINE}( and {LINE})*',
                f'banked (read of|write of {WORD} to) {BANKED}',
                f'note: {REGISTER} becomes {WORD}',
@@ -53,7 +54,10 @@ SAID = {
                         f'refused {ANSWER} at byte {NUMBER} after {NUMBER} Steps'),
     'pre': any_of(
         f'{RECORD} of {NUMBER} bytes was due; only {NUMBER} are there',
-        f'{RECORD} was due, of length {NUMBER} and kind {NUMBER}; length {NUMBER} and kind {NUMBER} are there',
+        f'the Start of {NUMBER} bytes was due, or of {NUMBER} in the old layout; only {NUMBER} are there',
+        f'{RECORD} was due, of length {NUMBER} and kind {NUMBER}(, or of {NUMBER} and {NUMBER} in the old layout)?; '
+        f'length {NUMBER} and kind {NUMBER} are there'
+        '(, a Step of the (new layout behind a Start of the old|old layout behind a Start of the new) one)?',
         f'the Start counts {NUMBER} Steps; there may be {NUMBER}',
         f'the Start counts {NUMBER} Steps, the End {NUMBER}',
         'the trace was whole, and more bytes follow its End',

@@ -30,6 +30,7 @@ os.environ['ASAN_OPTIONS'] = 'detect_leaks=0'  # looking takes some 4 s a run on
 
 A_WHILE = 0.3  # seconds in which what must not come would have come
 HONEST, STALE = (read(os.path.join(SAMPLES, f'{name}.trace')) for name in ('honest', 'stale-spsr'))
+STALE_KNOWN = 1616  # bytes of it with which its fault is known
 SCR, HCR = 35, 36
 OUTPUT, CONTROL, LOCAL, INPUT_SPEED, OUTPUT_SPEED, CONTROLS = range(1, 7)  # in what termios.tcgetattr gives
 LINES_OWN = OUTPUT, CONTROL, INPUT_SPEED, OUTPUT_SPEED
@@ -168,24 +169,25 @@ def try_two():
             hang_up(line)
             seen = console.end()
         expect(f'two traces over a line {way}: told before the second is whole',
-               told == shown + b': 12 TRAILING known after 1993 bytes\n', told)
-        expect('and the verdict', seen == (1, shown + b': refused 12 TRAILING at byte 1992 after 9 Steps\n', b''), seen)
+               told == shown + b': 12 TRAILING known after 2033 bytes\n', told)
+        expect('and the verdict', seen == (1, shown + b': refused 12 TRAILING at byte 2032 after 9 Steps\n', b''), seen)
 
 
 def try_follow():
     for named, way in ways():
         with Line() as line, listen(line, '--follow', named=named) as console:
             shown = line.name.encode() if named else b'-'
-            line.send(STALE[:1583], 100, 0.001)
+            line.send(STALE[:STALE_KNOWN - 1], 100, 0.001)
             early = console.line(A_WHILE)
-            line.send(STALE[1583:1584])
+            line.send(STALE[STALE_KNOWN - 1:STALE_KNOWN])
             told = console.line()
-            line.send(STALE[1584:], 100, 0.001)
+            line.send(STALE[STALE_KNOWN:], 100, 0.001)
             hang_up(line)
             seen = console.end()
         expect(f'a wrong Step over a line {way}: told while the unit sends', (early, told) ==
-               (b'', shown + b': 11 WRONG_STEP known after 1584 bytes\n'), (early, told))
-        expect('and the verdict', seen == (1, shown + b': refused 11 WRONG_STEP at byte 1384 after 6 Steps\n', b''), seen)
+               (b'', shown + b': 11 WRONG_STEP known after 1616 bytes\n'), (early, told))
+        expect('and the verdict',
+               seen == (1, shown + b': refused 11 WRONG_STEP at byte 1412 after 6 Steps\n', b''), seen)
 
 
 def trace_of_signs():
@@ -292,13 +294,13 @@ def try_settings():
             termios.tcsetattr(line.desk, termios.TCSANOW, settings)
             with listen(line, '--follow') as console:
                 time.sleep(A_WHILE)
-                line.send(STALE[:1584], 500, A_WHILE)
+                line.send(STALE[:STALE_KNOWN], 500, A_WHILE)
                 told = console.line()
-                line.send(STALE[1584:])
+                line.send(STALE[STALE_KNOWN:])
                 hang_up(line)
                 expect_line(f'reads of at least {least} bytes, or after {wait} tenths of a second', console.end(),
                             verdict(STALE), line, True)
-                expect('and told at once', told.endswith(b': 11 WRONG_STEP known after 1584 bytes\n'), told)
+                expect('and told at once', told.endswith(b': 11 WRONG_STEP known after 1616 bytes\n'), told)
 
 
 def own_terminal():
@@ -341,7 +343,7 @@ def try_others():
         line.send(HONEST[:1000])
         hang_up(line)
         seen = console.end()
-    due = line.name.encode() + b': refused 8 SHORT at byte 984 after 4 Steps\n'
+    due = line.name.encode() + b': refused 8 SHORT at byte 800 after 3 Steps\n'
     expect('a line among files', seen == (2, due + good, b'console: missing: No such file or directory\n'), seen)
     for option in ('--explain', '--trace', '--html', '--count'):
         with Line(raw=False) as line, listen(line, option, named=False) as console:

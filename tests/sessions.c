@@ -56,14 +56,29 @@ enum due due_of(const struct pomurica_session *words)
 {
     if (words->stage == POMURICA_STAGE_START)
         return DUE_START;
-    if (words->stage != POMURICA_STAGE_NEXT)
+    if (words->stage >= POMURICA_STAGE_OVER)
         return DUE_NONE;
     return words->steps < words->count ? DUE_STEP : DUE_END;
 }
 
+bool is_in_old(const struct pomurica_session *words)
+{
+    if (words->stage == POMURICA_STAGE_START)
+        return pomurica_get_word(words->unfinished, POMURICA_RECORD_HEAD) >> 16 != POMURICA_KIND_START;
+    return words->stage == POMURICA_STAGE_OLD_NEXT;
+}
+
 size_t size_due(const struct pomurica_session *words)
 {
-    static const size_t SIZES[DUES] = { POMURICA_START_SIZE, POMURICA_STEP_SIZE, POMURICA_END_SIZE, 0 };
+    return head_due(words) & 0xFFFF;
+}
 
-    return SIZES[due_of(words)];
+uint32_t head_due(const struct pomurica_session *words)
+{
+    static const uint32_t HEADS[][DUES] = {
+        { POMURICA_START_HEAD, POMURICA_STEP_HEAD, POMURICA_END_HEAD, 0 },
+        { POMURICA_OLD_START_HEAD, POMURICA_OLD_STEP_HEAD, POMURICA_END_HEAD, 0 },
+    };
+
+    return HEADS[is_in_old(words)][due_of(words)];
 }

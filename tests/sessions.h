@@ -52,12 +52,18 @@ uint32_t open_session(struct fed *fed);
 uint32_t feed_session(struct fed *fed, const uint8_t *run, size_t length);
 void close_session(struct fed *fed, size_t report_len, struct closing *closing);
 
-/* The record that a session waits for, none behind the End; and its size, 0 for none. */
+/* The record that a session waits for, none behind the End. */
 enum due {
     DUE_START, DUE_STEP, DUE_END, DUE_NONE,
     DUES
 };
 enum due due_of(const struct pomurica_session *words);
+
+/* Whether it is in the old layout: while the Start is due by the kind that it holds, then by its stage; not if over. */
+bool is_in_old(const struct pomurica_session *words);
+
+/* The size and the first word of the record due; 0 for none. */
 size_t size_due(const struct pomurica_session *words);
+uint32_t head_due(const struct pomurica_session *words);
 
 #endif

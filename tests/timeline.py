@@ -14,7 +14,7 @@ import tempfile
 
 sys.dont_write_bytecode = True
 from page import Page  # noqa: E402
-from records import PLACES, START_BLOCK, START_SIZE, STEP_BLOCK, STEP_KIND, STEP_SIZE  # noqa: E402
+from records import START_BLOCK, START_SIZE, STEP_BLOCK, STEP_NUMBER, STEP_SIZE, as_old, layout_of  # noqa: E402
 from walks import (  # noqa: E402
     BANKED_READ, BANKED_WRITE, CPSR, DONE, HYP, INTERRUPT_CHECK, MODE_BITS, MODES, MONITOR, NOT_HERE, NOTE, NS, RETURN, SCR,
     damaged, walk, walk_without_mode)
@@ -61,10 +61,11 @@ def mark_of(code, number, value):
 
 def count_recorded(trace, judged):
     """The Steps that were judged and those behind them that Start counts, have a Step's head and are whole."""
-    head, counted = struct.pack('<HH', STEP_SIZE, STEP_KIND), struct.unpack_from('<I', trace, 4)[0]
-    recorded, place = judged, START_SIZE + STEP_SIZE * judged
-    while recorded < counted and place + STEP_SIZE <= len(trace) and trace.startswith(head, place):
-        recorded, place = recorded + 1, place + STEP_SIZE
+    form, counted = layout_of(trace), struct.unpack_from('<I', trace, 4)[0]
+    head = struct.pack('<HH', form.step_size, form.step_kind)
+    recorded, place = judged, form.start_size + form.step_size * judged
+    while recorded < counted and place + form.step_size <= len(trace) and trace.startswith(head, place):
+        recorded, place = recorded + 1, place + form.step_size
     return recorded
 
 
@@ -74,9 +75,10 @@ class Due:
     def __init__(self, trace, right, is_wrong):
         self.right, self.wrong = right, right if is_wrong else None
         self.recorded = count_recorded(trace, right + 1) if is_wrong else right
-        places = [START_SIZE + STEP_SIZE * index for index in range(self.recorded)]
+        form = layout_of(trace)
+        places = [form.start_size + form.step_size * index for index in range(self.recorded)]
         blocks = [START_BLOCK, *(place + STEP_BLOCK for place in places)]
-        self.lanes = [lane_of(struct.unpack_from(f'<{PLACES}I', trace, place)) for place in blocks]
+        self.lanes = [lane_of(struct.unpack_from(f'<{form.places}I', trace, place)) for place in blocks]
         self.marks = [mark_of(*struct.unpack_from('<I8xII', trace, place + 4)) for place in places]
         self.per_column, columns = self.spread()
         self.width = min(FIELD // columns, WIDEST)
@@ -239,6 +241,17 @@ def try_walks(path):
         try_trace(f'{count:,} Steps, of which Step {wrong:,} is wrong', path, trace, wrong - 1, True)
 
 
+def try_old(path):
+    """The same in the old layout; what is wrong with a Step is its answer."""
+    for count in (0, 9, 101, 2001, 65535):
+        try_trace(f'{count:,} Steps of the old layout, accepted', path, as_old(walk(count, count)), count)
+    for count, wrong in ((9, 9), (2000, 612), (14001, 7000)):
+        trace = as_old(damaged(walk(count, count), wrong, NOT_HERE if wrong % 2 else DONE))
+        answer = layout_of(trace).start_size + layout_of(trace).step_size * (wrong - 1) + STEP_NUMBER
+        trace = trace[:answer + 3] + b'\1' + trace[answer + 4:]
+        try_trace(f'{count:,} Steps of the old layout, of which Step {wrong:,} is wrong', path, trace, wrong - 1, True)
+
+
 def try_ends(path):
     cut = damaged(walk(30000, 1), 12000)[:START_SIZE + STEP_SIZE * 20000 - 1]
     try_trace('30,000 Steps, of which Step 12,000 is wrong, cut in Step 20,000', path, cut, 11999, True)
@@ -251,5 +264,6 @@ def try_ends(path):
 with tempfile.TemporaryDirectory() as room:
     try_walks(os.path.join(room, 'walk.trace'))
     try_ends(os.path.join(room, 'walk.trace'))
+    try_old(os.path.join(room, 'walk.trace'))
 print(f'{results.count(True)} passed, {results.count(False)} failed')
 sys.exit(0 if all(results) else 1)

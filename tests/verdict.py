@@ -13,7 +13,8 @@ import sys
 import tempfile
 
 sys.dont_write_bytecode = True
-from records import LONGEST, SHORTEST, START_SIZE, STEP_SIZE, length_of, long_trace, start_record  # noqa: E402
+from records import (  # noqa: E402
+    LONGEST, OLD, OLD_SHORTEST, SHORTEST, START_SIZE, STEP_SIZE, length_of, long_trace, start_record)
 from runs import Live, comes_true, failing_file, is_taken, most_memory, read  # noqa: E402
 
 SCRIPT, SAMPLES = (os.path.abspath(path) for path in sys.argv[1:3])
@@ -37,10 +38,12 @@ def run(*arguments, **options):
 
 
 def try_case_l():
-    expect('the shortest trace', run(input=SHORTEST), b'0 192 0\n')
-    expect('without its last byte', run(input=SHORTEST[:-1]), b'8 184 0\n')
+    expect('the shortest trace', run(input=OLD_SHORTEST), b'0 192 0\n')
+    expect('without its last byte', run(input=OLD_SHORTEST[:-1]), b'8 184 0\n')
     expect('empty', run(input=b''), b'8 0 0\n')
-    expect('the shortest, of -', run('-', input=SHORTEST), b'0 192 0\n')
+    expect('the shortest, of -', run('-', input=OLD_SHORTEST), b'0 192 0\n')
+    expect('the shortest of the new layout', run(input=SHORTEST), b'0 196 0\n')
+    expect('without its last byte', run(input=SHORTEST[:-1]), b'8 188 0\n')
 
 
 def verdicts():
@@ -51,7 +54,7 @@ def verdicts():
                 yield name, *map(int, refused.groups())
             else:
                 steps = int(re.match(r'accepted, (\d+) Steps', said)[1])
-                yield name, 0, length_of(steps), steps
+                yield name, 0, os.path.getsize(os.path.join(os.path.dirname(SAMPLES), name)), steps
 
 
 def line_of(*three):
@@ -105,24 +108,27 @@ def try_pieces():
     with tempfile.NamedTemporaryFile() as file:
         file.write(SHORTEST)
         file.flush()
-        expect('a pipe in pieces of one byte', judged_from('dd', 'if=' + file.name, 'bs=1', 'status=none')[0], b'0 192 0\n')
+        expect('a pipe in pieces of one byte',
+               judged_from('dd', 'if=' + file.name, 'bs=1', 'status=none')[0], b'0 196 0\n')
         expect('a slow pipe',
-               judged_from('sh', '-c', 'head -c 100 "$0"; sleep 1; tail -c +101 "$0"', file.name)[0], b'0 192 0\n')
+               judged_from('sh', '-c', 'head -c 100 "$0"; sleep 1; tail -c +101 "$0"', file.name)[0], b'0 196 0\n')
     for size in (7, STEP_SIZE - 1, STEP_SIZE + 1):
         with Judging(stdin=subprocess.PIPE) as judging:
             for at in range(0, len(HONEST), size):
                 judging.send(HONEST[at:at + size])
                 comes_true(lambda: is_taken(judging.process.stdin))
             seen = judging.end()[:2]
-        expect(f'pieces of {size} bytes', seen, b'0 1992 9\n')
+        expect(f'pieces of {size} bytes', seen, b'0 2032 9\n')
 
 
 def try_lengths():
     for length in (65536, 65537, 10 * MEGABYTE):
-        expect(f'{length} bytes', run(input=SHORTEST + bytes(length - len(SHORTEST))), b'12 192 0\n')
-    for steps in (326, 327, 1000):  # the first is the longest below 65,536 bytes
+        expect(f'{length} bytes', run(input=SHORTEST + bytes(length - len(SHORTEST))), b'12 196 0\n')
+    for steps in (320, 321, 1000):  # the first is the longest below 65,536 bytes
         trace = long_trace(steps)
         expect(f'an honest trace of {len(trace)} bytes', run(input=trace), line_of(0, len(trace), steps))
+    expect('the longest of the old layout', run(input=long_trace(LONGEST, form=OLD)),
+           line_of(0, length_of(LONGEST, OLD), LONGEST))
     expect('the longest, but for a byte', run(input=long_trace(LONGEST)[:-1]), line_of(8, length_of(LONGEST) - 8, LONGEST))
     expect('the longest, and its last Step wrong', run(input=long_trace(LONGEST, LONGEST)),
            line_of(11, START_SIZE + STEP_SIZE * (LONGEST - 1), LONGEST - 1))
@@ -141,8 +147,8 @@ def end_of_reading(content, length):
 
 def try_end():
     """A file is read to its end, also behind a fault. That a sender is not cut off, try_memory sees."""
-    for name, content, out in (('no trace', b'', b'9 0 0\n'), ('a wrong Step', STALE, b'11 1384 6\n'),
-                               ('a trace', HONEST, b'12 1992 9\n')):
+    for name, content, out in (('no trace', b'', b'9 0 0\n'), ('a wrong Step', STALE, b'11 1412 6\n'),
+                               ('a trace', HONEST, b'12 2032 9\n')):
         seen, read_to = end_of_reading(content, 10 * MEGABYTE)
         expect(f'{name}, and zeros behind it', seen, out)
         expect('read to the end', (0, read_to), 10 * MEGABYTE)
@@ -159,12 +165,12 @@ def try_memory():
             file.write(trace)
             file.flush()
         seen, _, least = judged_from('cat', short.name)
-        expect('the shortest trace, in a pipe', seen, b'0 192 0\n')
+        expect('the shortest trace, in a pipe', seen, b'0 196 0\n')
         for name, file, zeros, out in (
                 ('the longest trace', long.name, 0, line_of(0, length_of(LONGEST), LONGEST)),
                 ('50,000,000 zeros', '/dev/null', 50000000, b'9 0 0\n'),
                 ('the longest trace and a gigabyte', long.name, GIGABYTE, line_of(12, length_of(LONGEST), LONGEST)),
-                ('the shortest and four gigabytes', short.name, 4 * GIGABYTE, b'12 192 0\n')):
+                ('the shortest and four gigabytes', short.name, 4 * GIGABYTE, b'12 196 0\n')):
             seen, sent, most = judged_from('sh', '-c', 'cat "$0" && head -c "$1" /dev/zero', file, str(zeros))
             expect(name, seen, out)
             expect('its sender is not cut off', (sent, b''), b'')

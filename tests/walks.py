@@ -147,7 +147,7 @@ def damaged(trace, wrong, number=DONE):
     """The trace with this Step wrong, an SMC with this answer, and with any state and any answer in those behind it."""
     bent, behind = bytearray(trace), START_SIZE + STEP_SIZE * wrong
     bent[behind - STEP_SIZE + 4:behind - BLOCK_SIZE] = struct.pack('<5I', SMC, 0, 0, number, 0)
-    bent[behind - 1] ^= 1  # of MVBAR, its last word
+    bent[behind - 1] ^= 1  # of HDCR, its last word
     for place in range(behind, len(trace) - END_SIZE, STEP_SIZE):
         bits = place // STEP_SIZE * 2654435761 >> 8  # mixed, and the same in every run
         bent[place + 16] = bits & 3

@@ -1,14 +1,14 @@
 #!/usr/bin/env python3
 """promises.py: every public function has a statement, and none asks what it must not. Run at the project's root.
 
-A `pub fn` states what it gives (`ensures`). An exported one, and any of machine, trace and console, asks nothing of its
-caller (`requires`). It finds statements that are missing, not those that say little. Ends with `N passed, M failed`.
+A `pub fn` states what it gives (`ensures`). An exported one, and any of machine, trace, session and console, asks nothing of
+its caller (`requires`). It finds statements that are missing, not those that say little. Ends with `N passed, M failed`.
 """
 import glob
 import re
 import sys
 
-TOTAL_CRATES = {'machine', 'trace', 'console'}
+TOTAL_CRATES = {'machine', 'trace', 'session', 'console'}
 PUBLIC = re.compile(r'\bpub\s+(?P<exported>extern\s+"C"\s+)?fn\s+(?P<name>\w+)')
 CLAUSES_OR_BODY = re.compile(r'\b(?:requires|ensures)\b|\{')
 CLAUSE = re.compile(r'\s*(requires|ensures)(?:\s+[\w-]+)?\s*\{')

@@ -1,12 +1,17 @@
 // The worked cases a to k of document 01 ("Numbers to hold against it"), run through `step_event`. Each line is a case
 // in the paper's notation; what it must say stands in the file stdout, written by hand from the paper.
 ghost use Prim.Native.Nat.{_≤_, _<_};
+ghost use Rattle.state.specs.Place.{PLACES};
 use libc::STDOUT_FILENO;
 use rules::event::Event;
 use rules::verdict::Answer;
 use state::place;
+use state::place::BLOCK_SIZE;
 use words::get_word;
 use words::put_word;
+
+// How many words a block has.
+const PLACES: u32 = place::PLACES as u32;
 
 // ---- writing
 
@@ -56,8 +61,8 @@ fn say_word(w: u32) {
 }
 
 // A register by name and its word after the step.
-fn say_register(name: &[u8], block: &[u8; 176], p: usize)
-    requires { ⌜ p < 44 ⌝ }
+fn say_register(name: &[u8], block: &[u8; BLOCK_SIZE], p: usize)
+    requires { ⌜ p < PLACES ⌝ }
 {
     say(b", ");
     say(name);
@@ -77,21 +82,21 @@ fn say_number(n: u32) {
 // ---- blocks and steps
 
 // A word at a place of a whole block, and one put there.
-fn get(block: &[u8; 176], p: usize) -> u32
-    requires { ⌜ p < 44 ⌝ }
+fn get(block: &[u8; BLOCK_SIZE], p: usize) -> u32
+    requires { ⌜ p < PLACES ⌝ }
 {
     get_word(block, p)
 }
 
-fn put(block: &mut [u8; 176], p: usize, w: u32)
-    requires { ⌜ p < 44 ⌝ }
+fn put(block: &mut [u8; BLOCK_SIZE], p: usize, w: u32)
+    requires { ⌜ p < PLACES ⌝ }
 {
     put_word(block, p, w);
 }
 
 // A block that is 0 but for SCR, CPSR and PC.
-fn block_with(scr: u32, cpsr: u32, pc: u32) -> [u8; 176] {
-    let mut block = [0u8; 176];
+fn block_with(scr: u32, cpsr: u32, pc: u32) -> [u8; BLOCK_SIZE] {
+    let mut block = [0u8; BLOCK_SIZE];
     put(&mut block, place::SCR, scr);
     put(&mut block, place::CPSR, cpsr);
     put(&mut block, place::PC, pc);
@@ -99,17 +104,17 @@ fn block_with(scr: u32, cpsr: u32, pc: u32) -> [u8; 176] {
 }
 
 // A different word at every place, none of them 0.
-fn number_places(block: &mut [u8; 176]) {
+fn number_places(block: &mut [u8; BLOCK_SIZE]) {
     let mut p: u32 = 0;
-    while p < 44 {
+    while p < PLACES {
         put(block, p as usize, 0x100 + p);
         p += 1;
     }
 }
 
 // A block so numbered, but for SCR, CPSR and PC.
-fn full_block_with(scr: u32, cpsr: u32, pc: u32) -> [u8; 176] {
-    let mut block = [0u8; 176];
+fn full_block_with(scr: u32, cpsr: u32, pc: u32) -> [u8; BLOCK_SIZE] {
+    let mut block = [0u8; BLOCK_SIZE];
     number_places(&mut block);
     put(&mut block, place::SCR, scr);
     put(&mut block, place::CPSR, cpsr);
@@ -117,7 +122,7 @@ fn full_block_with(scr: u32, cpsr: u32, pc: u32) -> [u8; 176] {
     block
 }
 
-fn step(block: &mut [u8; 176], code: u32, a: u32) -> Answer {
+fn step(block: &mut [u8; BLOCK_SIZE], code: u32, a: u32) -> Answer {
     machine::step::step_event(
         block,
         Event {
@@ -128,14 +133,14 @@ fn step(block: &mut [u8; 176], code: u32, a: u32) -> Answer {
     )
 }
 
-fn same_block(a: &[u8; 176], b: &[u8; 176]) -> bool {
+fn same_block(a: &[u8; BLOCK_SIZE], b: &[u8; BLOCK_SIZE]) -> bool {
     words::runs::same(a, b)
 }
 
 // ---- the cases
 
 // An interrupt check's value, up to what is named beside it.
-fn checked(label: &[u8], block: &mut [u8; 176], lines: u32) {
+fn checked(label: &[u8], block: &mut [u8; BLOCK_SIZE], lines: u32) {
     say(label);
     let r = step(block, 9, lines);
     say_word(r.value);
@@ -217,7 +222,7 @@ fn case_h() {
 }
 
 // A banked read of the cell A: its number, and what it read.
-fn read(label: &[u8], start: [u8; 176], a: u32) -> u32 {
+fn read(label: &[u8], start: [u8; BLOCK_SIZE], a: u32) -> u32 {
     let mut block = start;
     say(label);
     let r = step(&mut block, 10, a);

@@ -30,13 +30,13 @@ use denote.Struct.Members.{Member, rowsOf, partsAt}
 use denote.Struct.Parts.{shapeOf, PartsBack, struct-parts}
 use denote.Struct.Steps.{spelt}
 use denote.Struct.Struct.{Struct}
-use Rattle.trace.specs.declared.session.Progress.{Progress}
-use Rattle.trace.specs.declared.session.Session.{Session}
-use Rattle.trace.specs.Layout.{layout01, stepSize}
-use Rattle.trace.proofs.session.Progress as progress
-use Rattle.trace.proofs.session.Progress.Laws as progress-laws
-use Rattle.trace.proofs.session.Session as whole
-use Rattle.trace.proofs.session.Session.Laws as whole-laws
+use Rattle.records.specs.declared.session.Progress.{Progress}
+use Rattle.records.specs.declared.session.Session.{Session}
+use Rattle.records.specs.Layout.{newLayout, stepSize}
+use Rattle.records.proofs.session.Progress as progress
+use Rattle.records.proofs.session.Progress.Laws as progress-laws
+use Rattle.records.proofs.session.Session as whole
+use Rattle.records.proofs.session.Session.Laws as whole-laws
 use Rattle.console.proofs.Walking.{ungroup}
 
 -- ---- the types: of the whole, and of its fields
@@ -48,23 +48,23 @@ abbrev pub Numbers : RattleType
 Numbers = progress.the-row
 
 abbrev pub Block : RattleType
-Block = Array u8 (layout01 .size)
+Block = Array u8 (newLayout .size)
 
 abbrev pub Unfinished : RattleType
-Unfinished = Array u8 (stepSize layout01)
+Unfinished = Array u8 (stepSize newLayout)
 
 -- where the two arrays begin: behind the seven words, and behind the block
 abbrev pub blockAt : ℕ
 blockAt = 4 * 7
 
 abbrev pub unfinishedAt : ℕ
-unfinishedAt = blockAt + layout01 .size
+unfinishedAt = blockAt + newLayout .size
 
 abbrev members : List Member
 members =
     record { row = progress.the-field .row; ty = progress-laws.mir }
-    ∷ record { row = Block; ty = tyArray (tyInt w8) (layout01 .size) }
-    ∷ record { row = Unfinished; ty = tyArray (tyInt w8) (stepSize layout01) }
+    ∷ record { row = Block; ty = tyArray (tyInt w8) (newLayout .size) }
+    ∷ record { row = Unfinished; ty = tyArray (tyInt w8) (stepSize newLayout) }
     ∷ []
 
 -- they are the struct's

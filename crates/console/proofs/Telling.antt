@@ -8,8 +8,8 @@ use borrow.Author.Tests.{eq-eqb, ne-eqb}
 use Rattle.state.specs.Choice.{if_then_else_}
 use Rattle.state.specs.Number.{BAD-SIZE}
 use Rattle.rules.specs.Step.{ANSWER-SIZE}
-use Rattle.counts.specs.declared.lines.Written.{Written}
-use Rattle.counts.specs.Lines.{linesReturn, linesLeave}
+use Rattle.count_lines.specs.declared.Written.{Written}
+use Rattle.count_lines.specs.Lines.{linesReturn, linesLeave}
 use Rattle.console.specs.Count.{writtenBytes, textReturns, textLeaves, textAnswers}
 
 module _ (counts room answer : List ℕ) where

@@ -6,9 +6,9 @@ use lib.ListN.{length}
 use Rattle.words.specs.Word.{le32}
 use Rattle.state.specs.Choice.{if_then_else_, _is_}
 use Rattle.state.specs.Number.{BAD-SIZE}
-use Rattle.trace.specs.declared.check.Report.{Report}
-use Rattle.trace.specs.Layout.{layout01}
-use Rattle.trace.specs.Report.{report}
+use Rattle.records.specs.declared.report.Report.{Report}
+use Rattle.records.specs.Either.{reportOf}
+use Rattle.records.specs.Report.{report}
 
 abbrev pub reportSize : ℕ
 reportSize = 12
@@ -17,7 +17,7 @@ abbrev pub reportBytes : Report → List ℕ
 reportBytes v = le32 (v .number) ++ (le32 (v .place) ++ le32 (v .steps))
 
 unfoldable pub checkReturns : List ℕ → List ℕ → ℕ
-checkReturns trace buffer = if length buffer is reportSize then report layout01 trace .number else BAD-SIZE
+checkReturns trace buffer = if length buffer is reportSize then reportOf trace .number else BAD-SIZE
 
 unfoldable pub checkLeaves : List ℕ → List ℕ → List ℕ
-checkLeaves trace buffer = if length buffer is reportSize then reportBytes (report layout01 trace) else buffer
+checkLeaves trace buffer = if length buffer is reportSize then reportBytes (reportOf trace) else buffer

@@ -9,8 +9,8 @@ use Rattle.words.specs.Word.{le32}
 use Rattle.state.specs.Choice.{if_then_else_, _is_}
 use Rattle.state.specs.Number.{BAD-SIZE}
 use Rattle.rules.specs.Step.{ANSWER-SIZE}
-use Rattle.counts.specs.declared.lines.Written.{Written}
-use Rattle.counts.specs.Lines.{linesReturn, linesLeave}
+use Rattle.count_lines.specs.declared.Written.{Written}
+use Rattle.count_lines.specs.Lines.{linesReturn, linesLeave}
 
 abbrev pub writtenBytes : Written → List ℕ
 writtenBytes v = le32 (v .number) ++ le32 (v .size)

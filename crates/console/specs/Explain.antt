@@ -6,9 +6,8 @@ use lib.ListN.{length}
 use Rattle.words.specs.Word.{le32}
 use Rattle.state.specs.Choice.{if_then_else_, _is_}
 use Rattle.state.specs.Number.{BAD-SIZE}
-use Rattle.trace.specs.Layout.{layout01}
 use Rattle.explain.specs.declared.Explanation.{Explanation}
-use Rattle.explain.specs.Explain.{explanation}
+use Rattle.explain.specs.Either.{explanationOf}
 
 abbrev pub explanationSize : ℕ
 explanationSize = 24
@@ -19,7 +18,7 @@ explanationBytes x =
     ++ (le32 (x .place) ++ (le32 (x .steps) ++ (le32 (x .part) ++ (le32 (x .found) ++ le32 (x .due)))))
 
 unfoldable pub explainReturns : List ℕ → List ℕ → ℕ
-explainReturns trace buffer = if length buffer is explanationSize then explanation layout01 trace .number else BAD-SIZE
+explainReturns trace buffer = if length buffer is explanationSize then explanationOf trace .number else BAD-SIZE
 
 unfoldable pub explainLeaves : List ℕ → List ℕ → List ℕ
-explainLeaves trace buffer = if length buffer is explanationSize then explanationBytes (explanation layout01 trace) else buffer
+explainLeaves trace buffer = if length buffer is explanationSize then explanationBytes (explanationOf trace) else buffer

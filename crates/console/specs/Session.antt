@@ -9,24 +9,24 @@ use lib.Dec.{leb}
 use Rattle.words.specs.Word.{Bytes}
 use Rattle.state.specs.Choice.{if_then_else_, _is_}
 use Rattle.state.specs.Number.{DONE, BAD-SIZE}
-use Rattle.trace.specs.declared.session.Progress.{Progress}
-use Rattle.trace.specs.declared.session.Session.{Session}
-use Rattle.trace.specs.Layout.{layout01}
-use Rattle.trace.specs.Published.{Published}
-use Rattle.trace.specs.Report.{report, SHORT}
-use Rattle.trace.specs.Session.{CLOSED, session, opened, fed, feedNumber, shutting, closing}
-use Rattle.trace.specs.Arrival.{joined, knownNumber, knownWith}
+use Rattle.records.specs.declared.session.Progress.{Progress}
+use Rattle.records.specs.declared.session.Session.{Session}
+use Rattle.records.specs.Layout.{layoutOf}
+use Rattle.records.specs.Either.{reportOf, PublishedInOne}
+use Rattle.records.specs.Report.{SHORT}
+use Rattle.records.specs.Session.{CLOSED, session, openedSession, fedSession, feedNumber, shutting, closing}
+use Rattle.records.specs.Arrival.{joined, knownNumber, knownWith}
 use Rattle.console.specs.Check.{reportSize, reportBytes, checkReturns, checkLeaves}
 
 -- opening returns 0 and leaves a session before its first byte
 pub record Opens (n : ℕ) (s′ : Session) : Type 0 where
   pub number : n ≡ DONE
-  pub leaves : s′ ≡ opened layout01
+  pub leaves : s′ ≡ openedSession
 
 -- feeding leaves the session after the bytes, and returns the fault that is known then, or 14 CLOSED
 pub record Feeds (s : Session) (bytes : List ℕ) (n : ℕ) (s′ : Session) : Type 0 where
   pub number : n ≡ feedNumber (s′ .progress)
-  pub leaves : s′ ≡ fed layout01 s bytes
+  pub leaves : s′ ≡ fedSession s bytes
 
 -- closing returns the number and writes the report; the session is as it was, but closed. Another size of report is BAD-SIZE and
 -- changes nothing
@@ -73,20 +73,20 @@ pub record SessionTheorems : Type 0 where
   -- however the bytes were cut, what closing returns and writes is what `pomurica_check` does of the whole
   pub as-checked : (rs : List (List ℕ)) (n : ℕ) (buffer′ buffer : List ℕ) → Arrived rs n buffer′ → length buffer ≡ reportSize
       → (n ≡ checkReturns (joined rs) buffer) × (buffer′ ≡ checkLeaves (joined rs) buffer)
-  -- and it returns 0 exactly where the bytes are a published trace and nothing more
+  -- and it returns 0 exactly where the bytes are a published trace of either layout and nothing more
   pub exact : (rs : List (List ℕ)) (n : ℕ) (buffer′ : List ℕ) → Bytes (joined rs) → Arrived rs n buffer′
-      → (n ≡ DONE) ↔ Published layout01 (joined rs)
+      → (n ≡ DONE) ↔ PublishedInOne (joined rs)
   -- a feeding returns the number that closing would give for the bytes so far, but 0 in place of SHORT
   pub tells : (rs : List (List ℕ)) (bytes : List ℕ) (s t : Session) (n : ℕ) → Arriving rs s → Feeds s bytes n t
-      → n ≡ knownNumber (report layout01 (joined rs ++ bytes) .number)
+      → n ≡ knownNumber (reportOf (joined rs ++ bytes) .number)
   -- so where they are the first j bytes of a string with a fault: its number from the byte on with which it is known, before it 0
   pub tells-from-the-byte : (rs : List (List ℕ)) (bytes : List ℕ) (s t : Session) (n : ℕ) → Arriving rs s → Feeds s bytes n t
       → (all : List ℕ) (j : ℕ)
       → j ≤ length all
       → joined rs ++ bytes ≡ take j all
-      → (report layout01 all .number ≡ DONE → ⊥)
-      → (report layout01 all .number ≡ SHORT → ⊥)
-      → n ≡ (if leb (knownWith layout01 all (report layout01 all)) j then report layout01 all .number else 0)
+      → (reportOf all .number ≡ DONE → ⊥)
+      → (reportOf all .number ≡ SHORT → ⊥)
+      → n ≡ (if leb (knownWith (layoutOf all) all (reportOf all)) j then reportOf all .number else 0)
   -- an empty run changes nothing, of any session
   pub empty-run : (s t : Session) (n : ℕ) → Feeds s [] n t → t ≡ s
   -- after closing a feeding answers 14 and changes nothing, and closing again gives the same

@@ -7,7 +7,7 @@ use state::number;
 use state::place;
 
 // The events one after another, each with its answer: DONE, whatever each of them answers. Lists of unequal lengths, and a
-// block not of 176 bytes, answer BAD_SIZE and change nothing.
+// block not of 180 bytes, answer BAD_SIZE and change nothing.
 #[no_mangle]
 pub extern "C" fn pomurica_batch(events: &[Event], answers: &mut [Answer], block: &mut [u8]) -> u32
     ensures { λ r. ⌜ Batched (now (events .entry)) (now (answers .entry)) (now (block .entry)) r (now (answers .exit)) (now (block .exit)) ⌝ }

@@ -2,11 +2,10 @@
 ghost use mathlib.Core.Path.{_≡_};
 ghost use mathlib.Core.Logic.{_↔_};
 ghost use lib.ListN.{length};
-ghost use Rattle.trace.specs.Layout.{layout01};
-ghost use Rattle.trace.specs.Published.{Published};
+ghost use Rattle.records.specs.Either.{PublishedInOne};
 ghost use Rattle.console.specs.Check.{reportSize, reportBytes, checkReturns, checkLeaves};
+use records::report::Report;
 use state::number;
-use trace::check::Report;
 use words::put_word;
 
 pub(crate) const REPORT_SIZE: usize = 12;
@@ -33,12 +32,12 @@ pub(crate) fn put_report(buffer: &mut [u8], found: Report)
 pub extern "C" fn pomurica_check(trace: &[u8], report: &mut [u8]) -> u32
     ensures returns { λ r. ⌜ r ≡ checkReturns (now (trace .entry)) (now (report .entry)) ⌝ }
     ensures leaves { λ _. ⌜ now (report .exit) ≡ checkLeaves (now (trace .entry)) (now (report .entry)) ⌝ }
-    ensures exact { λ r. ⌜ (length (now (report .entry)) ≡ reportSize → (r ≡ 0) ↔ Published layout01 (now (trace .entry))) ⌝ }
+    ensures exact { λ r. ⌜ (length (now (report .entry)) ≡ reportSize → (r ≡ 0) ↔ PublishedInOne (now (trace .entry))) ⌝ }
 {
     if report.len() != REPORT_SIZE {
         return number::BAD_SIZE;
     }
-    let found = trace::check::check(trace);
+    let found = trace::check(trace);
     put_report(report, found);
     found.number
 }

@@ -1,7 +1,6 @@
 // The counts of many traces, and their lines, for C.
 ghost use mathlib.Core.Path.{_≡_};
-ghost use Rattle.trace.specs.Layout.{layout01};
-ghost use Rattle.counts.specs.Counts.{countReturns, countLeaves};
+ghost use Rattle.counts.specs.Counts.{countReturnsOf, countLeavesOf};
 ghost use Rattle.console.specs.Count.{textReturns, textLeaves, textAnswers};
 use machine::step::ANSWER_SIZE;
 use state::number::BAD_SIZE;
@@ -15,8 +14,8 @@ const SIZE: usize = 1;
 // Returns the number: DONE where the trace was counted; any other leaves every byte of the counts.
 #[no_mangle]
 pub extern "C" fn pomurica_count(trace: &[u8], counts: &mut [u8]) -> u32
-    ensures returns { λ r. ⌜ r ≡ countReturns layout01 (now (trace .entry)) (now (counts .entry)) ⌝ }
-    ensures leaves { λ _. ⌜ now (counts .exit) ≡ countLeaves layout01 (now (trace .entry)) (now (counts .entry)) ⌝ }
+    ensures returns { λ r. ⌜ r ≡ countReturnsOf (now (trace .entry)) (now (counts .entry)) ⌝ }
+    ensures leaves { λ _. ⌜ now (counts .exit) ≡ countLeavesOf (now (trace .entry)) (now (counts .entry)) ⌝ }
 {
     counts::count::count(trace, counts)
 }
@@ -32,7 +31,7 @@ pub extern "C" fn pomurica_count_lines(counts: &[u8], lines: &mut [u8], answer: 
     if answer.len() != ANSWER_SIZE {
         return BAD_SIZE;
     }
-    let written = counts::lines::put_lines(counts, lines);
+    let written = count_lines::put_lines(counts, lines);
     if written.number == BAD_SIZE {
         return BAD_SIZE;
     }

@@ -3,6 +3,6 @@ pub mod batch;
 pub mod check;
 pub mod counting;
 pub mod explanation;
+pub mod feeding;
 pub mod recording;
-pub mod session;
 pub mod step;

@@ -1,4 +1,4 @@
-// One step for C: a lent block of 176 bytes, an event, and a lent answer buffer of 8.
+// One step for C: a lent block of 180 bytes, an event, and a lent answer buffer of 8.
 ghost use mathlib.Core.Path.{_≡_};
 ghost use Rattle.rules.specs.Step.{numberReturned, blockLeft, answerLeft};
 

@@ -1,13 +1,13 @@
 -- The codes in the order of their numbers: those that the rules know are 1 to 13, the synchronous ones 1 to 8.
 use mathlib.Core.Path.{_≡_, refl, sym, ap, _∙_}
-use mathlib.Core.Bool.{Bool, true, false, not, _&&_, _||_}
-use Prim.Native.Nat.{ℕ, _+_, _/_, _%_, _<_, _≤_}
+use mathlib.Core.Bool.{Bool, true, false}
+use Prim.Native.Nat.{ℕ, _/_, _%_, _<_, _≤_}
 use native.Mathlib.Omega.{arith}
-use lib.Dec.{eqb, ltb, leb}
+use lib.Dec.{ltb, leb}
 use borrow.Author.Tests.{eq-eqb, ne-eqb, eqb-true, ltb-true, leb-true, leb-false, lt-ltb}
 use Rattle.state.specs.Choice.{if_then_else_, _is_}
 use Rattle.state.specs.Number.{DONE}
-use Rattle.state.proofs.Test.{refuted, everyBelow, at-below, everyOf, at-one, same, same-eq}
+use Rattle.state.proofs.Test.{refuted, at-below, at-one, same, same-eq}
 use Rattle.entry.specs.Code.{codes, synchronous-codes, isKnown, isSynchronous, INTERRUPT-CHECK, MONITOR-TRAP, RETURN}
 use Rattle.counts.specs.Parts.{stepOf, targetNumber, takenNumber, NOWHERE}
 

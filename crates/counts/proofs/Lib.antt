@@ -5,6 +5,4 @@ pub mod Adding
 pub mod Reading
 pub mod Summing
 pub mod Answered
-pub mod Pushing
-pub mod Lining
 pub mod Theorems

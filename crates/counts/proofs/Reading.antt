@@ -4,7 +4,7 @@ use mathlib.Core.Path.{_≡_, refl, sym, ap, _∙_}
 use mathlib.Core.Bool.{Bool, true, false, not}
 use mathlib.Core.Logic.{_↔_}
 use mathlib.Core.List.{List, [], _∷_, _++_, append-assoc}
-use Prim.Native.Nat.{ℕ, suc, _+_, _<_, _≤_, _^_}
+use Prim.Native.Nat.{ℕ, suc, _+_, _<_, _≤_}
 use native.Mathlib.Omega.{arith}
 use lib.ListN.{length, drop}
 use lib.Dec.{eqb}
@@ -16,17 +16,17 @@ use Rattle.state.specs.Choice.{if_then_else_}
 use Rattle.state.specs.Number.{DONE, BAD-SIZE, FULL}
 use Rattle.rules.specs.declared.event.Event.{Event}
 use Rattle.rules.specs.declared.verdict.Answer.{Answer}
-use Rattle.trace.specs.declared.check.Report.{Report}
-use Rattle.trace.specs.Layout.{Layout, Lawful, startSize, endSize, placeOf, mostSteps, numberAt, valueAt}
-use Rattle.trace.specs.Published.{IsAnswer, AreEvents, stepShowing, stepRecord, stepRecords, endRecord, published, Published}
-use Rattle.trace.specs.Report.{report, ACCEPTED}
-use Rattle.trace.specs.Claims.{Accepted, startOf, eventsOf}
-use Rattle.trace.proofs.Records.{start-rest, step-event, step-rest, length-published}
-use Rattle.trace.proofs.Determined.{start-read, events-read}
-use Rattle.trace.proofs.Theorems.{theorems}
-use Rattle.counts.specs.Counts.{Step, stepsFrom, stepsOf, count, gain, sum, anyPasses, spellWords, WORDS, COUNTS-SIZE}
+use Rattle.records.specs.declared.report.Report.{Report}
+use Rattle.records.specs.Layout.{Layout, Lawful, startSize, placeOf, mostSteps, numberAt, valueAt}
+use Rattle.records.specs.Published.{IsAnswer, AreEvents, stepShowing, stepRecord, stepRecords, endRecord, published, Published}
+use Rattle.records.specs.Report.{report, ACCEPTED}
+use Rattle.records.specs.Claims.{Accepted, eventsOf}
+use Rattle.records.proofs.Records.{start-rest, step-event, step-rest, length-published}
+use Rattle.records.proofs.Determined.{start-read, events-read}
+use Rattle.records.proofs.Theorems.{theorems}
+use Rattle.counts.specs.Counts.{Step, stepsFrom, stepsOf, gain, sum, anyPasses, spellWords, WORDS, COUNTS-SIZE}
 use Rattle.counts.specs.Counts.{countReturns, countLeaves}
-use Rattle.counts.specs.Parts.{shownStep, shownSteps, Gains, Fits}
+use Rattle.counts.specs.Parts.{shownSteps, Gains, Fits}
 use Rattle.counts.proofs.Adding.{none-passes, all-below, same-words}
 
 module _ (L : Layout) (LL : Lawful L) where

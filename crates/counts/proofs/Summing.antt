@@ -1,16 +1,16 @@
 -- The counts of a group, added up: each Step counts once in the groups by code and by answer, and an entry and a done check
 -- once in theirs, since every number that the rules answer has a word.
 use mathlib.Core.Path.{_≡_, refl, sym, ap, _∙_}
-use mathlib.Core.Bool.{Bool, true, false, _&&_, _||_}
+use mathlib.Core.Bool.{Bool, true, false, _&&_}
 use mathlib.Core.List.{List, [], _∷_}
-use Prim.Native.Nat.{ℕ, zero, suc, _+_, _*_, _/_, _%_, _<_, _≤_}
+use Prim.Native.Nat.{ℕ, zero, suc, _+_, _<_}
 use native.Mathlib.Omega.{arith}
 use lib.ListN.{length}
-use lib.Dec.{eqb, ltb, lit<}
+use lib.Dec.{eqb, ltb}
 use borrow.Author.Tests.{eqb-true, eqb-false, ltb-true, ltb-false, lt-ltb, le-ltb}
-use Rattle.state.specs.Choice.{if_then_else_, _is_}
+use Rattle.state.specs.Choice.{_is_}
 use Rattle.counts.specs.Counts.{Step, codeNumber, answerNumber, isEntry, targetMode, isDoneCheck, exceptionTaken, counted}
-use Rattle.counts.specs.Counts.{howMany, count, GROUP-SIZE}
+use Rattle.counts.specs.Counts.{howMany, GROUP-SIZE}
 use Rattle.counts.specs.Theorems.{totalBelow, total}
 use Rattle.counts.proofs.Bumping.{one}
 

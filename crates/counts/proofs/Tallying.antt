@@ -1,16 +1,14 @@
 -- What the Steps passed so far have added, and what the others will add, is what all add.
-use mathlib.Core.Path.{_≡_, refl, sym, ap, _∙_}
-use mathlib.Core.Bool.{Bool, true, false}
+use mathlib.Core.Path.{_≡_, refl, ap, _∙_}
 use mathlib.Core.List.{List, [], _∷_}
-use Prim.Native.Nat.{ℕ, zero, suc, _+_, _-_, _*_, _/_, _%_, _<_, _≤_}
+use Prim.Native.Nat.{ℕ, zero, suc, _+_, _-_, _/_, _%_, _<_, _≤_}
 use native.Mathlib.Omega.{arith}
 use native.Mathlib.Nat.{mul-zero, mul-suc, mul-le-mul-left}
 use native.Mathlib.Numerals.{add-one}
 use lib.ListN.{length, drop}
 use lib.Seq.{drop-drop}
 use Rattle.words.specs.Word.{word}
-use Rattle.state.specs.Choice.{if_then_else_}
-use Rattle.trace.specs.Layout.{Layout, startSize, stepSize, mostSteps, placeOf}
+use Rattle.records.specs.Layout.{Layout, startSize, stepSize, mostSteps, placeOf}
 use Rattle.counts.specs.Counts.{Step, counted, howMany, count, gain, GROUP-SIZE, WORDS, COUNTS-SIZE}
 use Rattle.counts.specs.Parts.{shownStep, shownSteps, Tally, Counted, Gains}
 use Rattle.counts.proofs.Bumping.{one, one-small}
@@ -84,14 +82,16 @@ module _ (L : Layout) where
       passed-whole less whole =
           omega (arith, p .place, mul-suc (stepSize L) k, mul-le-mul-left (stepSize L) less)
 
-      pub passed-next : k < steps → (c : List ℕ) → Counted gains (shownStep (drop at s)) c → Passed c (k + 1) (at + stepSize L)
-      passed-next less c n =
-          record {
+      pub passed-next : k < steps → (c : List ℕ) → Counted gains (shownStep (drop at s)) c → (size : ℕ) → size ≡ stepSize L
+          → Passed c (k + 1) (at + size)
+      passed-next less c n size is =
+          rw is
+          (record {
             place = omega (arith, p .place, mul-suc (stepSize L) k, add-one k);
             few = omega arith;
             size = n .size;
             words = next;
-          }
+          })
         where
           next : (w : ℕ) → w < WORDS
               → word c w + gain (shownSteps L (steps - (k + 1)) (drop (at + stepSize L) s)) w ≡ gain all w

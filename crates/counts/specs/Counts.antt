@@ -4,7 +4,7 @@
 -- A count stands at a word of its own: number i of group g at word 32 (g - 1) + i. An accepted trace adds the counts of its
 -- Steps to the words, a refused one adds nothing and keeps its number, and one that would carry any word past 4,294,967,295
 -- is refused whole with 13 FULL.
-use mathlib.Core.Bool.{Bool, true, false, not, _&&_, _||_}
+use mathlib.Core.Bool.{Bool, false, not, _&&_, _||_}
 use mathlib.Core.List.{List, [], _∷_, _++_}
 use Prim.Native.Nat.{ℕ, zero, suc, _+_, _/_, _%_}
 use lib.ListN.{length}
@@ -15,9 +15,9 @@ use Rattle.state.specs.Number.{DONE, BAD-SIZE, FULL}
 use Rattle.entry.specs.Code.{isKnown, isSynchronous, INTERRUPT-CHECK}
 use Rattle.rules.specs.declared.event.Event.{Event}
 use Rattle.rules.specs.declared.verdict.Answer.{Answer}
-use Rattle.trace.specs.Layout.{Layout}
-use Rattle.trace.specs.Report.{report, ACCEPTED}
-use Rattle.trace.specs.Claims.{startOf, eventsOf}
+use Rattle.records.specs.Layout.{Layout, layoutOf}
+use Rattle.records.specs.Report.{report, ACCEPTED}
+use Rattle.records.specs.Claims.{startOf, eventsOf}
 
 -- ---- Steps
 
@@ -131,3 +131,10 @@ module _ (L : Layout) where
   unfoldable pub countLeaves : List ℕ → List ℕ → List ℕ
   countLeaves s counts =
       if countReturns s counts is DONE then spellWords WORDS 0 (sum counts (stepsOf L s)) else counts
+
+-- in the layout of its Start (document 02, No. 11)
+abbrev pub countReturnsOf : List ℕ → List ℕ → ℕ
+countReturnsOf s = countReturns (layoutOf s) s
+
+abbrev pub countLeavesOf : List ℕ → List ℕ → List ℕ
+countLeavesOf s = countLeaves (layoutOf s) s

@@ -1,4 +1,3 @@
 pub mod Counts
-pub mod Lines
 pub mod Parts
 pub mod Theorems

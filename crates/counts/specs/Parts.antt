@@ -1,15 +1,14 @@
 -- What the inner functions of the counting ask and answer. Nobody has to believe these: the contracts of the public
--- functions cite Counts.antt and Lines.antt alone.
+-- functions cite Counts.antt alone.
 use mathlib.Core.Path.{_≡_}
-use mathlib.Core.Bool.{Bool, _&&_}
-use mathlib.Core.List.{List, [], _∷_, _++_}
+use mathlib.Core.List.{List, [], _∷_}
 use Prim.Native.Nat.{ℕ, zero, suc, _+_, _/_, _%_, _<_, _≤_, _^_}
 use lib.ListN.{length, drop}
 use lib.Dec.{ltb}
 use Rattle.words.specs.Word.{spelt, word, put}
 use Rattle.state.specs.Choice.{if_then_else_}
-use Rattle.trace.specs.Layout.{Layout, stepSize, numberAt, valueAt}
-use Rattle.trace.specs.Report.{eventOf}
+use Rattle.records.specs.Layout.{Layout, stepSize, numberAt, valueAt}
+use Rattle.records.specs.Report.{eventOf}
 use Rattle.counts.specs.Counts.{Step, isEntry, targetMode, isDoneCheck, exceptionTaken, counted, gain}
 use Rattle.counts.specs.Counts.{WORDS, GROUP-SIZE, COUNTS-SIZE}
 
@@ -68,15 +67,3 @@ pub record Gains (ss : List Step) (b : List ℕ) : Type 0 where
 -- no sum of two words of the same place passes 4,294,967,295
 abbrev pub Fits : List ℕ → List ℕ → Type 0
 Fits a b = (w : ℕ) → w < WORDS → word a w + word b w < 2 ^ 32
-
--- ---- a text that is made from the back
-
--- room for the lines of any counts
-abbrev pub TEXT-SIZE : ℕ
-TEXT-SIZE = 2048
-
--- u is t with s put before what began at the place at, and begins now at first
-pub record Pushed (t : List ℕ) (at : ℕ) (s u : List ℕ) (first : ℕ) : Type 0 where
-  pub size : length u ≡ length t
-  pub from : first + length s ≡ at
-  pub text : drop first u ≡ s ++ drop at t

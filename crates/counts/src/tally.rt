@@ -4,7 +4,7 @@ ghost use Prim.Native.Nat.{_+_, _*_, _/_, _%_, _≤_};
 ghost use lib.ListN.{length, drop};
 ghost use Rattle.state.specs.Choice.{if_then_else_};
 ghost use Rattle.entry.specs.Code.{isKnown, isSynchronous};
-ghost use Rattle.trace.specs.Layout.{layout01, startSize, stepSize, mostSteps, placeOf};
+ghost use Rattle.records.specs.Layout.{layout, startSize, mostSteps, placeOf, blockAfterAt};
 ghost use Rattle.counts.specs.Counts.{WORDS, GROUP-SIZE};
 ghost use Rattle.counts.specs.Parts.{
   shownStep,
@@ -19,8 +19,10 @@ ghost use Rattle.counts.specs.Parts.{
 };
 use crate::places::GROUP_SIZE;
 use entry::code;
+use records::layout;
+use records::layout::start_size;
+use records::layout::step_size;
 use state::number::DONE;
-use trace::layout;
 use words::get_word;
 use words::put_word;
 use words::word_at;
@@ -97,9 +99,9 @@ fn taken_number(code: u32, number: u32, value: u32) -> u32
     value / 65536
 }
 
-// The Step that these bytes begin with, counted in each group that it belongs to.
+// The Step of either layout that these bytes begin with, counted in each group that it belongs to.
 fn count_step(r: &[u8], gains: &mut [u8])
-    requires { ⌜ (stepSize layout01 ≤ length (now r)) × Tally 65535 (now gains) ⌝ }
+    requires { ⌜ (blockAfterAt ≤ length (now r)) × Tally 65535 (now gains) ⌝ }
     ensures { λ _. ⌜ Counted (now (gains .entry)) (shownStep (now (r .entry))) (now (gains .exit)) ⌝ }
 {
     let code = word_at(r, layout::CODE);
@@ -111,16 +113,17 @@ fn count_step(r: &[u8], gains: &mut [u8])
     bump(gains, BY_TAKEN, taken_number(code, number, value));
 }
 
-// All Steps of a trace that has so many.
-pub(crate) fn count_steps(trace: &[u8], steps: u32, gains: &mut [u8])
-    requires { ⌜ (steps ≤ mostSteps) × (placeOf layout01 steps ≤ length (now trace)) × Tally 0 (now gains) ⌝ }
-    ensures { λ _. ⌜ Gains (shownSteps layout01 steps (drop (startSize layout01) (now (trace .entry)))) (now (gains .exit)) ⌝ }
+// All Steps of a trace that has so many, in a layout.
+pub(crate) fn count_steps(old: bool, trace: &[u8], steps: u32, gains: &mut [u8])
+    requires { ⌜ (steps ≤ mostSteps) × (placeOf (layout old) steps ≤ length (now trace)) × Tally 0 (now gains) ⌝ }
+    ensures { λ _. ⌜ Gains (shownSteps (layout old) steps (drop (startSize (layout old)) (now (trace .entry)))) (now (gains .exit)) ⌝ }
 {
+    let size = step_size(old) as usize;
+    let mut at = start_size(old) as usize;
     let mut k: u32 = 0;
-    let mut at = layout::START_SIZE as usize;
     while k < steps {
         count_step(&trace[at..], gains);
         k += 1;
-        at += layout::STEP_SIZE as usize;
+        at += size;
     }
 }

@@ -1,4 +1,5 @@
 pub mod Ways
+pub mod Debug
 pub mod Masks
 pub mod Targets
 pub mod Entered

@@ -28,7 +28,7 @@ wrap-before : (x y : ℕ) → x < 2 ^ 32 → wrap (wrap x 0) y ≡ wrap x y
 wrap-before x y h = omega arith
 
 -- an EL1 mode is not Hyp
-el1-no-hyp : (m : ℕ) → el1 m ≡ true → (m is HYP) ≡ false
+pub el1-no-hyp : (m : ℕ) → el1 m ≡ true → (m is HYP) ≡ false
 unfolding el1
 el1-no-hyp m h = not-true (m is HYP) (at-one el1-modes (λ n. not (n is HYP)) refl m h)
 

@@ -71,9 +71,15 @@ isAbort code = code among (PREFETCH-ABORT ∷ DATA-ABORT ∷ [])
 abbrev pub isGeneral : ℕ → Bool
 isGeneral code = code among (UNDEFINED-INSTRUCTION ∷ SVC ∷ PREFETCH-ABORT ∷ DATA-ABORT ∷ [])
 
--- "A: 1 external + 2 stage 2"
+-- "A: 1 external + 2 stage 2", and "Prefetch Abort's A gains 4, debug" (document 02, No. 11)
 abbrev pub external : ℕ → Bool
 external = bit 0
 
 abbrev pub stage2 : ℕ → Bool
 stage2 = bit 1
+
+abbrev pub debug : ℕ → Bool
+debug = bit 2
+
+abbrev pub STAGE-2 : ℕ
+STAGE-2 = 2

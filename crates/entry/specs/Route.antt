@@ -4,12 +4,12 @@ use mathlib.Core.Bool.{Bool, true, false, not, _&&_, _||_}
 use mathlib.Core.List.{List, [], _∷_}
 use Prim.Native.Nat.{ℕ, _+_, _%_, _^_}
 use Rattle.state.specs.Choice.{if_then_else_, _is_, _among_}
-use Rattle.state.specs.Field.{mode-field, CPSR-T, SCR-EA, SCR-SCD, SCR-HCE, HCR-TSC, HCR-TGE}
+use Rattle.state.specs.Field.{mode-field, CPSR-T, SCR-EA, SCR-SCD, SCR-HCE, HCR-TSC, HCR-TGE, HDCR-TDE}
 use Rattle.state.specs.Mode.{USER, SUPERVISOR, MONITOR, ABORT, HYP, UNDEFINED}
 use Rattle.state.specs.Number.{NOT-HERE, DISABLED}
 use Rattle.state.specs.State.{secure, nsEl1, nsUser}
 use Rattle.entry.specs.Code.{UNDEFINED-INSTRUCTION, SVC, SMC, HVC, PREFETCH-ABORT, DATA-ABORT, HYP-TRAP}
-use Rattle.entry.specs.Code.{MONITOR-TRAP, isSynchronous, isAbort, isGeneral, external, stage2}
+use Rattle.entry.specs.Code.{MONITOR-TRAP, isSynchronous, isAbort, isGeneral, external, stage2, debug, STAGE-2}
 use Rattle.entry.specs.Offset as offsets
 use Rattle.entry.specs.Way.{Way, Barred, Enter}
 
@@ -110,6 +110,16 @@ unfoldable pub disabled : ℕ → ℕ → ℕ → ℕ → Bool
 disabled code cpsr scr hcr =
     (code is SMC && (SCR-SCD scr && not (trapped code cpsr scr hcr)))
     || (code is HVC && not (SCR-HCE scr))
+
+-- a debug abort that HDCR.TDE sends to Hyp (document 02, No. 11): "from Non-secure User or NS EL1 .. if HDCR.TDE (bit 8) is 1"
+abbrev pub debugTrapped : ℕ → ℕ → ℕ → ℕ → ℕ → Bool
+debugTrapped code a cpsr scr hdcr =
+    (code is PREFETCH-ABORT && debug a) && ((nsUser cpsr scr || nsEl1 cpsr scr) && HDCR-TDE hdcr)
+
+-- the A that an abort is routed by: such a one "goes to Hyp, at 0x14", as one of stage 2 does from there; "else as before", since
+-- neither of the two bits that routing asks for is set
+abbrev pub routedA : ℕ → ℕ → ℕ → ℕ → ℕ → ℕ
+routedA code a cpsr scr hdcr = if debugTrapped code a cpsr scr hdcr then STAGE-2 else a
 
 -- what an event comes to; one that is not synchronous has no way of its own
 unfoldable pub way : ℕ → ℕ → ℕ → ℕ → ℕ → ℕ → Way

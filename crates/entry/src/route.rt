@@ -1,9 +1,9 @@
 // What the routing of a synchronous event asks (document 01, "Routing"). The event itself enters at once, in `synchronous`.
 ghost use mathlib.Core.Path.{_≡_};
 ghost use mathlib.Core.Bool.{_&&_, _||_};
-ghost use Rattle.entry.specs.Code.{external, stage2};
+ghost use Rattle.entry.specs.Code.{PREFETCH-ABORT, external, stage2, debug};
 ghost use Rattle.entry.specs.Parts.{narrow, generalToHyp};
-ghost use Rattle.entry.specs.Route.{offsetTo};
+ghost use Rattle.entry.specs.Route.{offsetTo, routedA};
 ghost use Rattle.state.specs.Choice.{_is_};
 ghost use Rattle.state.specs.Field.{mode-field, HCR-TSC};
 ghost use Rattle.state.specs.Mode.{HYP};
@@ -12,8 +12,10 @@ use crate::offset;
 use state::field::cpsr_t;
 use state::field::hcr_tge;
 use state::field::hcr_tsc;
+use state::field::hdcr_tde;
 use state::field::scr_ns;
 use state::state::is_el1;
+use state::state::is_guest;
 use state::state::is_hyp;
 use state::state::is_secure;
 use state::state::is_user;
@@ -47,7 +49,9 @@ pub fn general_to_hyp(cpsr: u32, scr: u32, hcr: u32) -> bool
     false
 }
 
-// The two bits of an abort's A.
+// The bits of an abort's A, and the one that stage 2 is.
+const STAGE_2: u32 = 2;
+
 pub fn is_external(a: u32) -> bool
     ensures { λ r. ⌜ r ≡ external a ⌝ }
 {
@@ -58,6 +62,28 @@ pub fn is_stage2(a: u32) -> bool
     ensures { λ r. ⌜ r ≡ stage2 a ⌝ }
 {
     a / 2 % 2 == 1
+}
+
+pub fn is_debug(a: u32) -> bool
+    ensures { λ r. ⌜ r ≡ debug a ⌝ }
+{
+    a / 4 % 2 == 1
+}
+
+// The A that a Prefetch Abort is routed by: a debug abort that TDE sends to Hyp goes there as one of stage 2 does.
+pub fn routed_a(a: u32, cpsr: u32, scr: u32, hdcr: u32) -> u32
+    ensures { λ r. ⌜ r ≡ routedA PREFETCH-ABORT a cpsr scr hdcr ⌝ }
+{
+    if !is_debug(a) {
+        return a;
+    }
+    if !scr_ns(scr) {
+        return a;
+    }
+    if !is_guest(cpsr) {
+        return a;
+    }
+    if hdcr_tde(hdcr) { STAGE_2 } else { a }
 }
 
 // Has an abort a stage 2 where there is none, in Secure state or in Hyp?

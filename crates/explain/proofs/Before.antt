@@ -11,17 +11,17 @@ use Rattle.words.specs.Word.{le32, Bytes}
 use Rattle.rules.specs.declared.event.Event.{Event}
 use Rattle.rules.specs.declared.verdict.Answer.{Answer}
 use Rattle.rules.specs.Run.{runBy}
-use Rattle.trace.specs.declared.check.Report.{Report}
-use Rattle.trace.specs.Layout.{Layout, Lawful, startSize, stepSize, placeOf}
+use Rattle.records.specs.declared.report.Report.{Report}
+use Rattle.records.specs.Layout.{Layout, Lawful, startSize, stepSize, placeOf}
 use Rattle.rules.specs.Step.{answerBytes}
-use Rattle.trace.specs.Published.{head, eventBytes, startRecord, stepShowing, stepRecords, run}
-use Rattle.trace.specs.Report.{stepNumber, report, BAD-COUNT, WRONG-STEP}
-use Rattle.trace.specs.Claims.{startOf, eventsFrom}
-use Rattle.trace.proofs.Determined.{events-back}
-use Rattle.trace.proofs.Outcomes.{Beginning}
-use Rattle.trace.proofs.Own.{Fault, cut, bad, own, start-fault, step-fault, end-fault}
-use Rattle.trace.proofs.Records.{length-run, length-begun, start-block, start-rest}
-use Rattle.trace.proofs.Told.{Told, start-told, step-told, end-told, end-faulty, trailing, accepted, told, length-is}
+use Rattle.records.specs.Published.{head, eventBytes, startRecord, stepShowing, stepRecords, run}
+use Rattle.records.specs.Report.{stepNumber, report, BAD-COUNT, WRONG-STEP}
+use Rattle.records.specs.Claims.{startOf, eventsFrom}
+use Rattle.records.proofs.Determined.{events-back}
+use Rattle.records.proofs.Outcomes.{Beginning}
+use Rattle.records.proofs.Own.{Fault, cut, bad, own, start-fault, step-fault, end-fault}
+use Rattle.records.proofs.Records.{length-run, length-begun, start-block, start-rest}
+use Rattle.records.proofs.Told.{Told, start-told, step-told, end-told, end-faulty, trailing, accepted, told, length-is}
 use Rattle.explain.specs.Explain.{blockBefore}
 
 -- ---- where a wrong Step is

@@ -7,27 +7,26 @@ use lib.ListN.{length, take, drop}
 use borrow.Author.Tests.{eq-eqb, ne-eqb}
 use Rattle.words.specs.Word.{spelt, Bytes}
 use Rattle.rules.specs.declared.verdict.Answer.{Answer}
-use Rattle.trace.specs.declared.check.Report.{Report}
-use Rattle.trace.specs.Layout.{Layout, Lawful, startSize, stepSize, numberAt, valueAt, blockAfterAt}
-use Rattle.trace.specs.Report.{eventOf, report, WRONG-STEP}
+use Rattle.records.specs.declared.report.Report.{Report}
+use Rattle.records.specs.Layout.{Layout, Lawful, startSize, stepSize, numberAt, valueAt, blockAfterAt}
+use Rattle.records.specs.Report.{eventOf, report, WRONG-STEP}
 use Rattle.explain.specs.declared.Difference.{Difference}
 use Rattle.explain.specs.Explain.{NUMBER-PART, parts, partWord, none, differing, stepDifference, wrongPart, explained, explanation}
 use Rattle.explain.proofs.Before.{WrongAt, wrong-at, before-last, wrong-within}
 
 -- the words read off a Step and those of the step that was taken, under the definition's names
-pub compared : (L : Layout) (b r : List ℕ) (d : Difference) (number value : ℕ) (x : Answer) (c : List ℕ)
-    → d ≡ differing (parts L) NUMBER-PART
-    (partWord (record { number = number; value = value }) (take (L .size) (drop blockAfterAt r))) (partWord x c)
+pub compared : (L : Layout) (b r : List ℕ) (d : Difference) (number value : ℕ) (shown : List ℕ) (x : Answer) (c : List ℕ)
+    → d ≡ differing (parts L) NUMBER-PART (partWord (record { number = number; value = value }) shown) (partWord x c)
     → number ≡ spelt r numberAt
     → value ≡ spelt r valueAt
+    → shown ≡ take (L .size) (drop blockAfterAt r)
     → x ≡ L .answer b (eventOf r)
     → c ≡ L .after b (eventOf r)
     → d ≡ stepDifference L b r
 unfolding stepDifference
-compared L b r d number value x c is n v p q =
+compared L b r d number value shown x c is n v w p q =
     is
-    ∙ (λ i. differing (parts L) NUMBER-PART
-    (partWord (record { number = n i; value = v i }) (take (L .size) (drop blockAfterAt r))) (partWord (p i) (q i)))
+    ∙ (λ i. differing (parts L) NUMBER-PART (partWord (record { number = n i; value = v i }) (w i)) (partWord (p i) (q i)))
 
 module _ (L : Layout) (s : List ℕ) (v : Report) (is : v ≡ report L s) where
   -- an explanation, by any report that is the checker's

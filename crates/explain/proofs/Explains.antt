@@ -10,10 +10,10 @@ use lib.Dec.{eqb}
 use borrow.Author.Tests.{eq-eqb, ne-eqb, eqb-true, eqb-false}
 use Rattle.words.specs.Word.{Bytes}
 use Rattle.words.proofs.Spell.{bytes-drop}
-use Rattle.trace.specs.declared.check.Report.{Report}
-use Rattle.trace.specs.Layout.{Layout, Lawful}
-use Rattle.trace.specs.Report.{report, WRONG-STEP}
-use Rattle.trace.proofs.Records.{length-run, bytes-run}
+use Rattle.records.specs.declared.report.Report.{Report}
+use Rattle.records.specs.Layout.{Layout, Lawful}
+use Rattle.records.specs.Report.{report, WRONG-STEP}
+use Rattle.records.proofs.Records.{length-run, bytes-run}
 use Rattle.explain.specs.declared.Explanation.{Explanation}
 use Rattle.explain.specs.Explain.{NUMBER-PART, parts, none, wordFound, wordDue, stepDifference, blockBefore, wrongPart, explanation}
 use Rattle.explain.specs.Claims.{Differs, Nothing, Explains, foundAt, dueAt}

@@ -1,10 +1,12 @@
--- The theorems of any lawful layout of whole words, and those of document 01's.
+-- The theorems of any lawful layout of whole words, and those of either layout, by the layout of a string.
 use mathlib.Core.Path.{_≡_, refl, sym, _∙_}
+use mathlib.Core.Bool.{Bool, true, false}
 use Prim.Native.Nat.{_*_, _/_}
-use Rattle.trace.specs.Layout.{Layout, Lawful, layout01}
-use Rattle.trace.specs.Report.{report}
-use Rattle.trace.proofs.Lawful01.{lawful01}
+use Rattle.records.specs.Layout.{Layout, Lawful, layout, isOld}
+use Rattle.records.specs.Report.{report}
+use Rattle.records.proofs.Lawfuls.{lawful}
 use Rattle.explain.specs.Theorems.{Theorems}
+use Rattle.explain.specs.Either.{OfBoth}
 use Rattle.explain.proofs.Before.{wrong-at, before-last}
 use Rattle.explain.proofs.Explains as any
 
@@ -17,5 +19,19 @@ theorems L l words =
       meets-once = λ f g p q s by. p s by ∙ sym (q s by);
     }
 
-pub theorems01 : Theorems layout01
-theorems01 = theorems layout01 lawful01 refl
+-- the blocks of both layouts are whole words
+whole-words : (old : Bool) → 4 * (layout old .size / 4) ≡ layout old .size
+whole-words true = refl
+whole-words false = refl
+
+pub theorems-of : (old : Bool) → Theorems (layout old)
+theorems-of old = theorems (layout old) (lawful old) (whole-words old)
+
+pub both : OfBoth
+both =
+    record {
+      explains = λ s. theorems-of (isOld s) .explains s;
+      explains-once = λ s. theorems-of (isOld s) .explains-once s;
+      block-right-before = λ s. theorems-of (isOld s) .block-right-before s;
+      meets-once = λ f g p q s by. p s by ∙ sym (q s by);
+    }

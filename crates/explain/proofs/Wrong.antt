@@ -12,11 +12,11 @@ use Rattle.words.specs.Word.{half, Bytes}
 use Rattle.words.proofs.SameWords.{same-words}
 use Rattle.words.proofs.Spell.{bytes-drop, bytes-take}
 use Rattle.rules.specs.declared.event.Event.{Event}
-use Rattle.trace.specs.Layout.{Layout, Lawful, headSize, stepSize, lengthAt, kindAt, blockAfterAt}
-use Rattle.trace.specs.Report.{unless, _else_, headNumber, stepNumber, eventOf, SHORT, BAD-RECORD, WRONG-STEP}
-use Rattle.trace.specs.Judged.{Shows}
-use Rattle.trace.proofs.Faults.{zero-or-not, else-first, head-whole}
-use Rattle.trace.proofs.Judging.{judged-right}
+use Rattle.records.specs.Layout.{Layout, Lawful, headSize, stepSize, lengthAt, kindAt, blockAfterAt}
+use Rattle.records.specs.Report.{unless, _else_, headNumber, stepNumber, eventOf, SHORT, BAD-RECORD, WRONG-STEP}
+use Rattle.records.specs.Judged.{Shows}
+use Rattle.records.proofs.Faults.{zero-or-not, else-first, head-whole}
+use Rattle.records.proofs.Judging.{judged-right}
 use Rattle.explain.specs.Explain.{NUMBER-PART, VALUE-PART, BLOCK-PART, parts, wordFound, wordDue}
 use Rattle.explain.proofs.Differing.{Alike, First, first, part-block}
 

@@ -11,11 +11,11 @@ use lib.ListN.{take, drop}
 use Rattle.words.specs.Word.{spelt, word}
 use Rattle.state.specs.Choice.{if_then_else_, _is_}
 use Rattle.rules.specs.declared.verdict.Answer.{Answer}
-use Rattle.trace.specs.declared.check.Report.{Report}
-use Rattle.trace.specs.Layout.{Layout, startSize, numberAt, valueAt, blockAfterAt}
-use Rattle.trace.specs.Published.{run}
-use Rattle.trace.specs.Report.{WRONG-STEP, eventOf, report}
-use Rattle.trace.specs.Claims.{startOf, eventsFrom}
+use Rattle.records.specs.declared.report.Report.{Report}
+use Rattle.records.specs.Layout.{Layout, startSize, numberAt, valueAt, blockAfterAt}
+use Rattle.records.specs.Published.{run}
+use Rattle.records.specs.Report.{WRONG-STEP, eventOf, report}
+use Rattle.records.specs.Claims.{startOf, eventsFrom}
 use Rattle.explain.specs.declared.Difference.{Difference}
 use Rattle.explain.specs.declared.Explanation.{Explanation}
 
@@ -30,7 +30,7 @@ VALUE-PART = 2
 abbrev pub BLOCK-PART : ℕ
 BLOCK-PART = 3
 
--- how many there are (46 in document 01): number, value, and a word for every four bytes of a block
+-- how many there are (46 in the old layout, 47 in the new): number, value, and a word for every four bytes of a block
 abbrev pub parts : Layout → ℕ
 parts L = 2 + L .size / 4
 

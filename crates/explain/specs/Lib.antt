@@ -1,3 +1,4 @@
 pub mod Explain
 pub mod Claims
 pub mod Theorems
+pub mod Either

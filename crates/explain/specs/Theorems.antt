@@ -1,11 +1,11 @@
--- What is proved of the explanations of a layout, whichever lawful one of whole words it is. Document 01's is layout01.
+-- What is proved of the explanations of a layout, whichever lawful one of whole words it is. Both are; see Either.antt.
 use mathlib.Core.Path.{_≡_}
 use mathlib.Core.List.{List}
 use Prim.Native.Nat.{ℕ, _-_}
 use lib.ListN.{take, drop}
 use Rattle.words.specs.Word.{Bytes}
-use Rattle.trace.specs.Layout.{Layout}
-use Rattle.trace.specs.Report.{report, WRONG-STEP}
+use Rattle.records.specs.Layout.{Layout}
+use Rattle.records.specs.Report.{report, WRONG-STEP}
 use Rattle.explain.specs.declared.Explanation.{Explanation}
 use Rattle.explain.specs.Explain.{blockBefore, explanation}
 use Rattle.explain.specs.Claims.{Explains, Meets}

@@ -7,9 +7,9 @@ use lib.Dec.{eqb}
 use borrow.Author.Tests.{eqb-true}
 use Rattle.state.specs.Choice.{if_then_else_, _is_}
 use Rattle.state.specs.Field.{mode-field, SCR-NS, HCR-TGE}
-use Rattle.state.specs.Mode.{USER, HYP, el1, guest}
+use Rattle.state.specs.Mode.{HYP, guest}
 use Rattle.state.specs.State.{secure, nsEl1, nsUser}
-use Rattle.state.proofs.Laws.{ns-el1, ns-user}
+use Rattle.state.proofs.Laws.{in-guest}
 use Rattle.state.proofs.Test.{same, same-eq, everyBit, at-bit}
 use Rattle.interrupts.specs.Check.{firstOf, found}
 use borrow.Author.Tests.{eqb-false}
@@ -67,18 +67,6 @@ obeyed-by sec hyp m r w =
     (at-bit (λ hyp. everyBit (λ m. everyBit (λ r. everyBit (agrees sec hyp m r))))
     (at-bit (λ sec. everyBit (λ hyp. everyBit (λ m. everyBit (λ r. everyBit (agrees sec hyp m r))))) tried sec)
     hyp) m) r) w)
-
--- Non-secure User and NS EL1 together: NS, and a mode that a guest runs in
-both-of : (ns user el : Bool) → ((ns && user) || (ns && el)) ≡ (ns && (if user then true else el))
-both-of true true el = refl
-both-of true false el = refl
-both-of false user el = refl
-
-pub in-guest : (cpsr scr : ℕ) → (nsUser cpsr scr || nsEl1 cpsr scr) ≡ (SCR-NS scr && guest (mode-field cpsr))
-unfolding guest el1
-in-guest cpsr scr =
-    rw (ns-user cpsr scr, ns-el1 cpsr scr)
-    (both-of (SCR-NS scr) (mode-field cpsr is USER) (el1 (mode-field cpsr)))
 
 -- a virtual exception can be taken where one can be pending at all, by its M, its source and its mask bit
 parted : (here tge m src msk : Bool)

@@ -10,9 +10,9 @@ use Rattle.words.specs.Word.{spelt, word, put}
 use Rattle.state.specs.Mode.{known, el1, guest, isTarget, spsrPlace, lrPlace}
 use Rattle.state.specs.Number.{DONE, BAD-STATE, BAD-EVENT, NOT-HERE, NO-REGISTER, NO-RIGHT, DISABLED, OWN-REGISTER}
 use Rattle.state.specs.Place.{BLOCK-SIZE, LR-irq, LR-svc, LR-abt, LR-mon, ELR-hyp, SPSR-svc, SPSR-mon, SPSR-hyp, CPSR, PC, SCR}
-use Rattle.state.specs.Place.{HCR, VBAR-ns}
+use Rattle.state.specs.Place.{HCR, VBAR-ns, HVBAR, HDCR}
 use Rattle.state.specs.State.{good}
-use Rattle.entry.specs.Code.{SVC, SMC, HVC}
+use Rattle.entry.specs.Code.{SVC, SMC, HVC, PREFETCH-ABORT, DATA-ABORT}
 use Rattle.entry.specs.Enter.{nsCleared, masksAfter, cpsrAfter, vectorBase, written, entered}
 use Rattle.entry.specs.Route as synchronous
 use Rattle.interrupts.specs.Check as interrupt
@@ -229,3 +229,37 @@ pub reasons-right : all reasons ≡ true
 unfolding spelt put known el1 guest isTarget spsrPlace lrPlace good wrongA synchronous.notHere synchronous.disabled cell denied own
     reason right badEvent refusal doneAction action answer after value
 reasons-right = refl
+
+-- ---- No. 11 of document 02
+
+-- HDCR.TDE is 1, and Hyp's and Non-secure state's vectors stand apart
+abbrev tde : Words → Words
+tde start = (HDCR, 0x100) ∷ (HVBAR, 0x4000) ∷ (VBAR-ns, 0x2000) ∷ start
+
+-- the code, with A past its values
+abbrev past-a : ℕ → ℕ → Case
+past-a code a = record { start = with 1 0x13; code = code; a = a; number = BAD-EVENT; told = 0; left = with 1 0x13 }
+
+abbrev debugs : List Case
+debugs =
+    -- "From Non-secure User or NS EL1 a debug abort goes to Hyp, at 0x14"; HDCR is kept
+    gives (tde (with 1 0x10)) PREFETCH-ABORT 4 0x1A14 ((CPSR, 0x1DA) ∷ (PC, 0x4014) ∷ (ELR-hyp, 0x8000) ∷ (HDCR, 0x100) ∷ [])
+    ∷ gives (tde (with 1 0x13)) PREFETCH-ABORT 4 0x1A14 ((CPSR, 0x1DA) ∷ (PC, 0x4014) ∷ (SPSR-hyp, 0x13) ∷ (HDCR, 0x100) ∷ [])
+    -- "else as before": with A 0; with TDE 0; from Hyp, at its own offset; from Secure state
+    ∷ gives (tde (with 1 0x13)) PREFETCH-ABORT 0 0x170C ((CPSR, 0x197) ∷ (PC, 0x200C) ∷ (LR-abt, 0x8004) ∷ [])
+    ∷ gives (with 1 0x13) PREFETCH-ABORT 4 0x170C ((CPSR, 0x197) ∷ (PC, 0xC) ∷ (LR-abt, 0x8004) ∷ [])
+    ∷ gives (tde (with 1 0x1A)) PREFETCH-ABORT 4 0x1A0C ((PC, 0x400C) ∷ (ELR-hyp, 0x8000) ∷ [])
+    ∷ gives (tde (with 0 0x13)) PREFETCH-ABORT 4 0x170C ((CPSR, 0x197) ∷ (LR-abt, 0x8004) ∷ [])
+    -- and an abort of stage 2 is where it was
+    ∷ gives (with 1 0x13) PREFETCH-ABORT 2 0x1A14 ((ELR-hyp, 0x8000) ∷ [])
+    -- debug is no bit that goes with the others, and Data Abort has none
+    ∷ past-a PREFETCH-ABORT 5
+    ∷ past-a DATA-ABORT 4
+    ∷ []
+
+pub debugs-right : all debugs ≡ true
+unfolding spelt put known el1 guest spsrPlace lrPlace good nsCleared masksAfter cpsrAfter vectorBase written entered
+    synchronous.toMonitor synchronous.toHyp synchronous.target synchronous.offset synchronous.link
+    synchronous.notHere synchronous.disabled synchronous.way cell denied own reason right badEvent refusal doneAction action answer
+    after value
+debugs-right = refl

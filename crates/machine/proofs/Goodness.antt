@@ -15,13 +15,14 @@ use Rattle.state.specs.Choice.{_is_}
 use Rattle.state.specs.Field.{without, mode-field, SCR-NS, HCR-TGE}
 use Rattle.state.specs.Mode.{isTarget, spsrPlace}
 use Rattle.state.specs.Number.{DONE}
-use Rattle.state.specs.Place.{BLOCK-SIZE, CPSR, PC, SCR, HCR}
+use Rattle.state.specs.Place.{BLOCK-SIZE, CPSR, PC, SCR, HCR, HDCR}
 use Rattle.state.specs.State.{nsUser, nsEl1, fault, faultOf}
 use Rattle.state.proofs.Good.{Good, parts-of-good, good-by-parts}
 use Rattle.state.proofs.Test.{and-left, and-right, true-is-not-false}
 use Rattle.entry.specs.Code.{isSynchronous}
 use Rattle.entry.specs.Enter.{entered}
 use Rattle.entry.specs.Route as synchronous
+use Rattle.entry.proofs.Debug.{here-routed}
 use Rattle.entry.specs.Way.{Way, Barred, Enter}
 use Rattle.entry.proofs.Keeps as entry
 use Rattle.entry.proofs.Targets.{target-is-one}
@@ -40,7 +41,7 @@ use Rattle.returns.proofs.After.{word-good, word-fits}
 use Rattle.rules.specs.Event.{RETURN}
 use Rattle.rules.specs.declared.event.Event.{Event}
 use Rattle.rules.specs.Refusal.{unknownMode, notGood, refusal}
-use Rattle.rules.specs.Step.{takenBy, eventWay, interruptWay, checkedIn, returned, doneAction, vaCleared, blockAfter, after}
+use Rattle.rules.specs.Step.{takenBy, routedIn, eventWay, interruptWay, checkedIn, returned, doneAction, vaCleared, blockAfter, after}
 use Rattle.rules.proofs.Carrying.{va-cases}
 use Rattle.rules.proofs.Deciding.{known-code, by-code}
 use Rattle.rules.proofs.Rows.{Passed, passed}
@@ -120,9 +121,10 @@ module _ (b : List ℕ) (size : length b ≡ BLOCK-SIZE) (by : Bytes b) where
       → StandsWay (eventWay b code a)
   unfolding synchronous.way
   synchronous-stands code a f s n d =
-      rw (s, n, d) (
-        target-is-one code a (word b CPSR) (word b SCR) (word b HCR),
-        entry.target-stands code a (word b CPSR) (word b SCR) (word b HCR) (goods b f) s n,
+      let here = here-routed code a (word b CPSR) (word b SCR) (word b HDCR) in
+      rw (here, s, n, d) (
+        target-is-one code (routedIn b code a) (word b CPSR) (word b SCR) (word b HCR),
+        entry.target-stands code (routedIn b code a) (word b CPSR) (word b SCR) (word b HCR) (goods b f) s (here ∙ n),
       )
 
   physical-stands : (k : Kind) → fault b ≡ DONE

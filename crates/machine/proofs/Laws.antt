@@ -13,13 +13,14 @@ use Rattle.state.specs.Choice.{if_then_else_, _is_, Row, firstOf}
 use Rattle.state.specs.Field.{mode-field, without}
 use Rattle.state.specs.Mode.{USER, HYP, MONITOR}
 use Rattle.state.specs.Number.{DONE}
-use Rattle.state.specs.Place.{CPSR, SCR, HCR}
+use Rattle.state.specs.Place.{CPSR, SCR, HCR, HDCR}
 use Rattle.state.specs.State.{secure}
 use Rattle.state.proofs.Test.{and-left, and-right, both}
 use Rattle.entry.specs.Enter.{nsCleared, written, entered}
 use Rattle.entry.specs.Code.{isSynchronous}
 use Rattle.entry.specs.Route as synchronous
 use Rattle.entry.specs.Way.{Way, Barred, Enter}
+use Rattle.entry.proofs.Debug.{here-routed}
 use Rattle.entry.proofs.Targets.{chosen}
 use Rattle.interrupts.specs.Check as interrupt
 use Rattle.interrupts.proofs.Laws.{found-cases}
@@ -143,7 +144,7 @@ done-number b code a w p =
     enters : isSynchronous code ≡ true → synchronous.notHere code a (word b CPSR) (word b SCR) ≡ false
         → synchronous.disabled code (word b CPSR) (word b SCR) (word b HCR) ≡ false
         → Enters (eventWay b code a)
-    enters y n d = rw (y, n, d) tt
+    enters y n d = rw (here-routed code a (word b CPSR) (word b SCR) (word b HDCR), y, n, d) tt
 
 -- a done step answers DONE, and a refused one its number
 pub number-is : (b : List ℕ) (e : Event) → answer b e .number ≡ refusal b e

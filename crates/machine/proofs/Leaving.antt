@@ -10,12 +10,13 @@ use Rattle.words.specs.Word.{word, put}
 use Rattle.state.specs.Choice.{_is_}
 use Rattle.state.specs.Field.{SCR-SCD, SCR-HCE}
 use Rattle.state.specs.Number.{DONE}
-use Rattle.state.specs.Place.{BLOCK-SIZE, CPSR, SCR, HCR}
+use Rattle.state.specs.Place.{BLOCK-SIZE, CPSR, SCR, HCR, HDCR}
 use Rattle.banked.specs.Cell.{cell}
 use Rattle.returns.specs.Return.{pcReturned}
 use Rattle.rules.specs.Event.{BANKED-READ, BANKED-WRITE, NOTE, RETURN}
 use Rattle.entry.specs.Code.{INTERRUPT-CHECK, SMC, HVC, isSynchronous}
 use Rattle.entry.specs.Route as synchronous
+use Rattle.entry.proofs.Debug.{here-routed}
 use Rattle.state.proofs.Test.{true-is-not-false}
 use Rattle.rules.proofs.Deciding.{by-code}
 use Rattle.rules.proofs.Rows.{passed}
@@ -74,11 +75,12 @@ module _ (b : List ℕ) (e : Event) (done : refusal b e ≡ DONE) where
   takes-as-routed y =
       let here : synchronous.notHere (e .code) (e .a) (word b CPSR) (word b SCR) ≡ false = rw y at (passed b e done .here) in
       let able : synchronous.disabled (e .code) (word b CPSR) (word b SCR) (word b HCR) ≡ false = rw y at (passed b e done .able) in
+      let routed = here-routed (e .code) (e .a) (word b CPSR) (word b SCR) (word b HDCR) in
       done-is
       ∙ by-code (λ x. x ≡ Take Synchronous (target b e) (offset b e) (link b e)) b (e .code) (e .a) (e .b)
       (λ c. absurd (not-one INTERRUPT-CHECK refl c)) (λ c. absurd (not-one BANKED-READ refl c))
       (λ c. absurd (not-one BANKED-WRITE refl c)) (λ c. absurd (not-one NOTE refl c))
-      (λ c. absurd (not-one RETURN refl c)) (λ o. rw (y, here, able))
+      (λ c. absurd (not-one RETURN refl c)) (λ o. rw (routed, y, here, able))
     where
       not-one : (k : ℕ) → isSynchronous k ≡ false → e .code ≡ k → ⊥
       not-one k n c = true-is-not-false y (ap isSynchronous c ∙ n)

@@ -1,8 +1,10 @@
 pub mod Stepping
 pub mod Laws
+pub mod Behind
 pub mod Replay
 pub mod Numbers
 pub mod Leaving
+pub mod Debugging
 pub mod Denying
 pub mod Returning
 pub mod Checking

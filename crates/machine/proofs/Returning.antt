@@ -15,13 +15,14 @@ use Rattle.state.specs.Choice.{if_then_else_, _is_, _among_}
 use Rattle.state.specs.Field.{bit, bits, mode-field, CPSR-T, SCR-NS, HCR-TGE}
 use Rattle.state.specs.Mode.{MONITOR, HYP, isTarget, spsrPlace, lrPlace, known, el1}
 use Rattle.state.specs.Number.{DONE}
-use Rattle.state.specs.Place.{BLOCK-SIZE, CPSR, PC, SCR, HCR}
+use Rattle.state.specs.Place.{BLOCK-SIZE, CPSR, PC, SCR, HCR, HDCR}
 use Rattle.state.specs.State.{secure, fault}
 use Rattle.state.proofs.Good.{Good}
 use Rattle.state.proofs.Test.{at-one}
 use Rattle.entry.specs.Code.{UNDEFINED-INSTRUCTION, SVC, PREFETCH-ABORT, DATA-ABORT, MONITOR-TRAP, isSynchronous, isGeneral}
 use Rattle.entry.specs.Route.{wrap, ahead, addend}
 use Rattle.entry.specs.Route as synchronous
+use Rattle.entry.proofs.Debug.{here-routed}
 use Rattle.entry.proofs.Keeps.{nsAfter, everyEvent, of-target, cleared-bit}
 use Rattle.entry.proofs.Targets.{chosen, target-is-one}
 use Rattle.interrupts.specs.declared.exception.Exception.the-variants.{Synchronous}
@@ -34,7 +35,7 @@ use Rattle.returns.proofs.After.{saved-exactly, address-fits}
 use Rattle.rules.specs.Event.{RETURN}
 use Rattle.rules.specs.Refusal.{refusal, badReturn}
 use Rattle.rules.specs.Run.{runBy, run}
-use Rattle.rules.specs.Step.{Refuse, Take, Return, doneAction, action, blockAfter, after}
+use Rattle.rules.specs.Step.{Refuse, Take, Return, routedIn, doneAction, action, blockAfter, after}
 use Rattle.rules.specs.Verdict.{answerFor}
 use Rattle.rules.specs.declared.event.Event.{Event}
 use Rattle.rules.proofs.Deciding.{event, returnedBy, at-return}
@@ -191,7 +192,7 @@ module _ (b : List ℕ) (e : Event) (bytes : Bytes b) (done : refusal b e ≡ DO
   in-target = entering.mode b e bytes Synchronous to (offset b e) (link b e) taken
 
   has : hasSaved l ≡ true
-  has = ap isTarget in-target ∙ target-is-one (e .code) (e .a) (word b CPSR) (word b SCR) (word b HCR)
+  has = ap isTarget in-target ∙ target-is-one (e .code) (routedIn b (e .code) (e .a)) (word b CPSR) (word b SCR) (word b HCR)
 
   saves : savedWord l ≡ word b CPSR
   saves = ap (λ m. word l (spsrPlace m)) in-target ∙ entering.saves b e bytes Synchronous to (offset b e) (link b e) taken
@@ -214,10 +215,11 @@ module _ (b : List ℕ) (e : Event) (bytes : Bytes b) (done : refusal b e ≡ DO
   -- the return is legal
   may : isIllegal (word l CPSR) (word l SCR) (word l HCR) (savedWord l) ≡ false
   may =
+      let here : synchronous.notHere (e .code) (e .a) (word b CPSR) (word b SCR) ≡ false = rw y at (passed b e done .here) in
       rw (saves, in-target, ns-there, tge-there)
       (not-true _
-      (of-target mayGoBack tried (e .code) (e .a) (word b CPSR) (word b SCR) (word b HCR) (goods b (stays .0)) y
-      (rw y at (passed b e done .here))))
+      (of-target mayGoBack tried (e .code) (routedIn b (e .code) (e .a)) (word b CPSR) (word b SCR) (word b HCR) (goods b (stays .0)) y
+      (here-routed (e .code) (e .a) (word b CPSR) (word b SCR) (word b HDCR) ∙ here)))
 
   -- and so it is done
   goes-back : action l (back b e) ≡ Return (cpsrReturned l) (pcReturned l (back b e .a))

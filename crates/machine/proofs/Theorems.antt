@@ -33,9 +33,10 @@ use Rattle.rules.specs.Step.{ANSWER-SIZE, Take, action, vaCleared, answer, afte
 use Rattle.rules.specs.Verdict.{value, refusedWith}
 use Rattle.rules.specs.declared.event.Event.{Event}
 use Rattle.machine.specs.Claims.{FirstRow, rowsLent, Accesses, EntersAsRouted, OneOf, TheFirst, CanBeTaken, EntersBy, Takes}
-use Rattle.machine.specs.Claims.{TakesNothing, Decided, scrLeft, hcrLeft}
+use Rattle.machine.specs.Claims.{TakesNothing, Decided, debugTrappedIn, DebugToHyp, AsPlain, scrLeft, hcrLeft}
 use Rattle.machine.specs.RoundTrip.{KeepsMode, back, RoundTrip}
 use Rattle.machine.proofs.Checking as checking
+use Rattle.machine.proofs.Debugging as debugging
 use Rattle.machine.proofs.Denying as denying
 use Rattle.machine.proofs.Entering as entering
 use Rattle.machine.proofs.Goodness as goodness
@@ -109,6 +110,13 @@ module _ (b : List ℕ) (e : Event) (done : refusal b e ≡ DONE) where
 
 pub enters-as-routed : (b : List ℕ) (e : Event) → refusal b e ≡ DONE → isSynchronous (e .code) ≡ true → EntersAsRouted b e
 enters-as-routed = leaving.enters-as-routed
+
+-- No. 11 of document 02: a debug abort from Non-secure User or NS EL1 with TDE 1 enters Hyp at 0x14; else it is as A 0
+pub debug-to-hyp : (b : List ℕ) → length b ≡ BLOCK-SIZE → fault b ≡ DONE → debugTrappedIn b ≡ true → DebugToHyp b
+debug-to-hyp = debugging.debug-to-hyp
+
+pub debug-as-plain : (b : List ℕ) → debugTrappedIn b ≡ false → AsPlain b
+debug-as-plain = debugging.debug-as-plain
 
 -- No. 8 of document 02: an SMC that is done had SCD 0, or was trapped by TSC; an HVC that is done had HCE 1
 pub smc-enabled : (b : List ℕ) (e : Event) → refusal b e ≡ DONE → e .code ≡ SMC

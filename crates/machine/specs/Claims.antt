@@ -1,18 +1,19 @@
 -- Words for what the theorems say of a step: the first row that applies, an access that hangs on its right alone, what can be
 -- taken at an interrupt check and which is taken, what an entry leaves of SCR and HCR, and what it is to be a step.
 use mathlib.Core.Path.{_≡_}
-use mathlib.Core.Bool.{Bool, true, false, not, _&&_}
+use mathlib.Core.Bool.{Bool, true, false, not, _&&_, _||_}
 use mathlib.Core.Logic.{_⊎_}
 use mathlib.Core.List.{List, [], _∷_}
 use Prim.Native.Nat.{ℕ, _<_, _^_}
 use lib.ListN.{length}
 use Rattle.words.specs.Word.{word, Bytes}
 use Rattle.state.specs.Choice.{if_then_else_, _is_, Row}
-use Rattle.state.specs.Field.{without, mode-field}
+use Rattle.state.specs.Field.{without, mode-field, HDCR-TDE}
 use Rattle.state.specs.Mode.{MONITOR, HYP}
 use Rattle.state.specs.Number.{DONE, BAD-SIZE}
-use Rattle.state.specs.Place.{BLOCK-SIZE, NO-PLACE, CPSR, PC, SCR, HCR}
-use Rattle.state.specs.State.{fault}
+use Rattle.state.specs.Place.{BLOCK-SIZE, NO-PLACE, CPSR, PC, SCR, HCR, HDCR}
+use Rattle.state.specs.State.{nsUser, nsEl1, fault}
+use Rattle.entry.specs.Code.{PREFETCH-ABORT}
 use Rattle.entry.specs.Enter.{entered}
 use Rattle.entry.specs.Route as synchronous
 use Rattle.entry.specs.Way.{Enter}
@@ -25,8 +26,8 @@ use Rattle.interrupts.specs.declared.exception.Exception.the-variants.{Synchron
 use Rattle.interrupts.specs.declared.exception.Exception.the-variants.{VirtualSError, VirtualFiq, VirtualIrq}
 use Rattle.banked.specs.Cell.{cell}
 use Rattle.rules.specs.Event.{INTERRUPT-CHECK, isBanked, badEvent}
-use Rattle.rules.specs.Refusal.{rows}
-use Rattle.rules.specs.Step.{vaCleared, answer, after, sized, numberReturned, blockLeft, answerLeft}
+use Rattle.rules.specs.Refusal.{rows, refusal}
+use Rattle.rules.specs.Step.{routedIn, vaCleared, answer, after, sized, numberReturned, blockLeft, answerLeft}
 use Rattle.rules.specs.Verdict.{entryTo, answerFor}
 use Rattle.rules.specs.declared.event.Event.{Event}
 
@@ -38,7 +39,7 @@ pub data FirstRow : List Row → ℕ → Type 0 where
   here : {r : Row} {rs : List Row} → r .applies ≡ true → FirstRow (r ∷ rs) (r .number)
   later : {r : Row} {rs : List Row} {n : ℕ} → r .applies ≡ false → FirstRow rs n → FirstRow (r ∷ rs) n
 
--- the rows of a step over an answer buffer, row 1 being whole: "block not 176 bytes, or answer buffer not 8"
+-- the rows of a step over an answer buffer, row 1 being whole: "block not 180 bytes, or answer buffer not 8"
 abbrev pub rowsLent : List ℕ → Event → List ℕ → List Row
 rowsLent b e buffer = record { applies = not (sized b buffer); number = BAD-SIZE } ∷ rows b e
 
@@ -109,18 +110,43 @@ module _ (k : Kind) (b : List ℕ) where
 module _ (b : List ℕ) (e : Event) where
   -- where the event goes, at which offset, and its link, by its routing
   abbrev pub target : ℕ
-  target = synchronous.target (e .code) (e .a) (word b CPSR) (word b SCR) (word b HCR)
+  target = synchronous.target (e .code) (routedIn b (e .code) (e .a)) (word b CPSR) (word b SCR) (word b HCR)
 
   abbrev pub offset : ℕ
-  offset = synchronous.offset (e .code) (e .a) (word b CPSR) (word b SCR) (word b HCR)
+  offset = synchronous.offset (e .code) (routedIn b (e .code) (e .a)) (word b CPSR) (word b SCR) (word b HCR)
 
   abbrev pub link : ℕ
-  link = synchronous.link (e .code) (e .a) (word b CPSR) (word b SCR) (word b HCR) (word b PC)
+  link = synchronous.link (e .code) (routedIn b (e .code) (e .a)) (word b CPSR) (word b SCR) (word b HCR) (word b PC)
 
   -- answer and block are those of that entry
   pub record EntersAsRouted : Type 0 where
     pub answers : answer b e ≡ answerFor (entryTo Synchronous target offset)
     pub leaves : after b e ≡ entered b target offset link
+
+-- ---- a debug abort (document 02, No. 11)
+
+-- Prefetch Abort with A 4, debug; and with A 0
+abbrev pub debugAbort : Event
+debugAbort = record { code = PREFETCH-ABORT; a = 4; b = 0 }
+
+abbrev pub plainAbort : Event
+plainAbort = record { code = PREFETCH-ABORT; a = 0; b = 0 }
+
+-- "From Non-secure User or NS EL1 .. if HDCR.TDE (bit 8) is 1"
+abbrev pub debugTrappedIn : List ℕ → Bool
+debugTrappedIn b = (nsUser (word b CPSR) (word b SCR) || nsEl1 (word b CPSR) (word b SCR)) && HDCR-TDE (word b HDCR)
+
+-- it is done, "goes to Hyp, at 0x14", and enters there
+pub record DebugToHyp (b : List ℕ) : Type 0 where
+  pub done : refusal b debugAbort ≡ DONE
+  pub to-hyp : target b debugAbort ≡ HYP
+  pub at-14 : offset b debugAbort ≡ 0x14
+  pub enters : EntersAsRouted b debugAbort
+
+-- "else as before": answer and block are those of A 0
+pub record AsPlain (b : List ℕ) : Type 0 where
+  pub answers : answer b debugAbort ≡ answer b plainAbort
+  pub leaves : after b debugAbort ≡ after b plainAbort
 
 -- ---- what an entry leaves
 

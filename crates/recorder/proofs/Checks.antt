@@ -6,9 +6,9 @@ use lib.Dec.{leb, lit<}
 use borrow.Author.Tests.{eq-eqb, ne-eqb, le-leb, lt-leb, eqb-true, leb-true}
 use Rattle.state.specs.Choice.{_is_}
 use Rattle.state.proofs.Test.{and-left, and-right}
-use Rattle.trace.specs.Layout.{Layout, mostSteps}
-use Rattle.trace.proofs.Faults.{else-zero, unless-zero}
-use Rattle.trace.specs.Report.{unless}
+use Rattle.records.specs.Layout.{Layout, mostSteps}
+use Rattle.records.proofs.Faults.{else-zero, unless-zero}
+use Rattle.records.specs.Report.{unless}
 use Rattle.recorder.specs.Recorded.{DONE, BAD-SIZE, BAD-COUNT, NO-ROOM, traceSize, hasRoom, recordNumber}
 
 module _ (L : Layout) (block events buffer offset : ℕ) where

@@ -14,9 +14,9 @@ use Rattle.state.specs.Choice.{if_then_else_, _is_}
 use Rattle.rules.specs.declared.event.Event.{Event}
 use Rattle.rules.specs.Run.{runBy}
 use Rattle.rules.specs.Step.{answerBytes}
-use Rattle.trace.specs.Layout.{Layout, Lawful, startSize, stepSize, endSize, placeOf}
-use Rattle.trace.specs.Published.{head, eventBytes, startRecord, stepShowing, stepRecord, stepRecords, endRecord, run, published}
-use Rattle.trace.proofs.Records.{length-start, length-end, length-step, length-run, length-begun, length-published, steps-append}
+use Rattle.records.specs.Layout.{Layout, Lawful, startSize, stepSize, endSize, placeOf}
+use Rattle.records.specs.Published.{head, eventBytes, startRecord, stepShowing, stepRecord, stepRecords, endRecord, run, published}
+use Rattle.records.proofs.Records.{length-start, length-end, length-step, length-run, length-begun, length-published, steps-append}
 use Rattle.recorder.specs.Recorded.{DONE, writtenAt, blockBefore, recordNumber, Recorded}
 use Rattle.recorder.proofs.Checks.{Passed, passed}
 use Rattle.recorder.proofs.Writing.{length-written, written-on, written-again}

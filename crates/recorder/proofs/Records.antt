@@ -7,11 +7,12 @@ use lib.ListN.{length, take, drop, length-append, length-drop, drop-of-length-le
 use lib.Seq.{drop-drop, drop-at, take-at, take-all, take-add, take-length, length-take-le}
 use Rattle.words.specs.Word.{le32, put}
 use Rattle.rules.specs.declared.event.Event.{Event}
+use Rattle.rules.specs.Known.{seen}
 use Rattle.rules.specs.Step.{ANSWER-SIZE, answerBytes, answer, after, blockLeft, answerLeft}
-use Rattle.trace.specs.Layout.{layout01, startSize, stepSize, endSize, endKind, numberAt, blockAfterAt}
-use Rattle.trace.specs.Published.{head, eventBytes, startRecord, stepShowing, stepRecord, endRecord}
-use Rattle.trace.proofs.Lawful01.{lawful01}
-use Rattle.trace.proofs.Records.{length-step}
+use Rattle.records.specs.Layout.{newLayout, startSize, stepSize, endSize, endKind, numberAt, blockAfterAt}
+use Rattle.records.specs.Published.{head, eventBytes, startRecord, stepShowing, stepRecord, endRecord}
+use Rattle.records.proofs.Lawfuls.{lawful-new}
+use Rattle.records.proofs.Records.{length-step}
 use Rattle.machine.proofs.Laws.{length-after}
 use Rattle.machine.proofs.Leaving.{lent}
 use Rattle.machine.proofs.Replay.{cleared}
@@ -57,16 +58,16 @@ end-written p n l e₀ e₁ =
 
 -- its head and its event
 abbrev named : Event → List ℕ
-named e = head (stepSize layout01) (layout01 .stepKind) ++ eventBytes e
+named e = head (stepSize newLayout) (newLayout .stepKind) ++ eventBytes e
 
 pub event-written : (p : List ℕ) (e : Event) → numberAt ≤ length p → {q₀ q₁ q₂ q₃ : List ℕ}
-    → q₀ ≡ put p 0 (headWord (stepSize layout01) (layout01 .stepKind))
+    → q₀ ≡ put p 0 (headWord (stepSize newLayout) (newLayout .stepKind))
     → q₁ ≡ put q₀ 1 (e .code)
     → q₂ ≡ put q₁ 2 (e .a)
     → q₃ ≡ put q₂ 3 (e .b)
     → q₃ ≡ named e ++ drop numberAt p
 event-written p e l e₀ e₁ e₂ e₃ =
-    let h = headWord (stepSize layout01) (layout01 .stepKind) in
+    let h = headWord (stepSize newLayout) (newLayout .stepKind) in
     let two-words = le32 h ++ le32 (e .code) in
     let one = e₁ ∙ ap (λ (q : List ℕ). put q 1 (e .code)) e₀ ∙ two p h (e .code) (omega (arith, l)) in
     e₃ ∙ ap (λ (q : List ℕ). put q 3 (e .b)) (e₂ ∙ ap (λ (q : List ℕ). put q 2 (e .a)) one)
@@ -75,35 +76,35 @@ event-written p e l e₀ e₁ e₂ e₃ =
 
 -- ---- a Start
 
-pub start-written : (p b : List ℕ) (n : ℕ) → length b ≡ layout01 .size → startSize layout01 ≤ length p → {q r c : List ℕ}
-    → q ≡ put p 0 (headWord (startSize layout01) (layout01 .startKind))
+pub start-written : (p b : List ℕ) (n : ℕ) → length b ≡ newLayout .size → startSize newLayout ≤ length p → {q r c : List ℕ}
+    → q ≡ put p 0 (headWord (startSize newLayout) (newLayout .startKind))
     → r ≡ put q 1 n
     → c ≡ take (length b) b ++ drop (length b) (take (length r - 8) (drop 8 r))
-    → take 8 r ++ (c ++ drop (length r - 8) (drop 8 r)) ≡ startRecord layout01 n b ++ drop (startSize layout01) p
+    → take 8 r ++ (c ++ drop (length r - 8) (drop 8 r)) ≡ startRecord newLayout n b ++ drop (startSize newLayout) p
 unfolding startRecord
 start-written p b n k l {q} {r} {c} e₀ e₁ e₂ =
-    let h = headWord (startSize layout01) (layout01 .startKind) in
+    let h = headWord (startSize newLayout) (newLayout .startKind) in
     let is : r ≡ le32 h ++ (le32 n ++ drop 8 p) =
     e₁ ∙ ap (λ (q : List ℕ). put q 1 n) e₀ ∙ two p h n (omega (arith, l)) in
     let long : length r ≡ length p = ap length is ∙ omega (arith, l, length-drop 8 p) in
     let block = e₂ ∙ ap (λ (d : List ℕ). d ++ drop (length b) (take (length r - 8) (drop 8 r))) (take-length b) in
     over-part r b c 8 (length b) refl (omega (arith, long, k, l)) block
     ∙ (λ i. take 8 (is i) ++ (b ++ drop (8 + k i) (is i)))
-    ∙ ap (λ (d : List ℕ). le32 h ++ (le32 n ++ (b ++ d))) (drop-drop (layout01 .size) 8 p)
+    ∙ ap (λ (d : List ℕ). le32 h ++ (le32 n ++ (b ++ d))) (drop-drop (newLayout .size) 8 p)
 
 -- ---- a Step, behind the block that it goes from
 
 -- where its answer, and the block after it, begin there
 abbrev answerAt : ℕ
-answerAt = layout01 .size + numberAt
+answerAt = newLayout .size + numberAt
 
 abbrev afterAt : ℕ
-afterAt = layout01 .size + blockAfterAt
+afterAt = newLayout .size + blockAfterAt
 
 -- q is p with its block copied to where the block after goes. The event is put; the block is stepped where it was copied to; and
 -- the answer is put.
-pub step-written : (p : List ℕ) (e : Event) → layout01 .size + stepSize layout01 ≤ length p → {q t c m u : List ℕ}
-    → let size = layout01 .size in
+pub step-written : (p : List ℕ) (e : Event) → newLayout .size + stepSize newLayout ≤ length p → {q t c m u : List ℕ}
+    → let size = newLayout .size in
     let named-in = take size q ++ (t ++ drop (length q - size) (drop size q)) in
     let before = take size (drop afterAt named-in) in
     let stepped = take afterAt named-in ++ (c ++ drop size (drop afterAt named-in)) in
@@ -113,12 +114,12 @@ pub step-written : (p : List ℕ) (e : Event) → layout01 .size + stepSize layo
     → m ≡ answerLeft before e cleared
     → u ≡ take (length m) m ++ drop (length m) (take (length stepped - answerAt) (drop answerAt stepped))
     → take answerAt stepped ++ (u ++ drop (length stepped - answerAt) (drop answerAt stepped))
-    ≡ writtenAt p size (stepRecord layout01 (take size p) e)
-unfolding stepShowing
+    ≡ writtenAt p size (stepRecord newLayout (take size p) e)
+unfolding seen stepShowing
 step-written p e l {q} {t} {c} {m} {u} e₀ e₁ e₂ e₃ e₄ =
-    let size = layout01 .size in
+    let size = newLayout .size in
     let b = take size p in
-    let rest = drop (size + stepSize layout01) p in
+    let rest = drop (size + stepSize newLayout) p in
     let long : length b ≡ size = length-take-le size p (omega (arith, l)) in
     -- what stood in the record's place, up to the block
     let words = take numberAt (drop size p) in
@@ -175,32 +176,33 @@ step-written p e l {q} {t} {c} {m} {u} e₀ e₁ e₂ e₃ e₄ =
     ∙ (λ i. writtenAt (stepped-in i) answerAt (answered i))
     ∙ write-middle (b ++ named e) answer₀ m′ (c′ ++ rest) answerAt named-long answer-long
     ∙ append-assoc b (named e) (m′ ++ (c′ ++ rest))
-    ∙ ap (λ (n : ℕ). b ++ (stepRecord layout01 b e ++ drop (size + n) p))
-    (sym (length-step layout01 lawful01 e (answer b e) c′ long′))
+    ∙ ap (λ (n : ℕ). b ++ (stepRecord newLayout b e ++ drop (size + n) p))
+    (sym (length-step newLayout lawful-new e (answer b e) c′ long′))
 
 -- the same in a buffer, at this place: the part that is lent begins with the block before
-pub step-behind : (s : List ℕ) (place before : ℕ) (e : Event) → place ≡ before + layout01 .size
-    → place + stepSize layout01 ≤ length s
+pub step-behind : (s : List ℕ) (place before : ℕ) (e : Event) → place ≡ before + newLayout .size
+    → place + stepSize newLayout ≤ length s
     → {c : List ℕ}
     → let part = take (length s - before) (drop before s) in
-    c ≡ writtenAt part (layout01 .size) (stepRecord layout01 (take (layout01 .size) part) e)
+    c ≡ writtenAt part (newLayout .size) (stepRecord newLayout (take (newLayout .size) part) e)
     → take before s ++ (c ++ drop (length s - before) (drop before s))
-    ≡ writtenAt s place (stepRecord layout01 (blockBefore layout01 place s) e)
+    ≡ writtenAt s place (stepRecord newLayout (blockBefore newLayout place s) e)
+unfolding seen
 step-behind s place before e k l {c} h =
-    let size = layout01 .size in
+    let size = newLayout .size in
     let b = take size (drop before s) in
     let part = take (length s - before) (drop before s) in
     let whole : part ≡ drop before s = take-all (length s - before) (drop before s) (omega (arith, length-drop before s)) in
     let long : length b ≡ size = length-take-le size (drop before s) (omega (arith, k, l, length-drop before s)) in
-    let r = stepRecord layout01 b e in
-    let long′ : length r ≡ stepSize layout01 =
-    length-step layout01 lawful01 e (answer b e) (after b e) (length-after b e ∙ long) in
+    let r = stepRecord newLayout b e in
+    let long′ : length r ≡ stepSize newLayout =
+    length-step newLayout lawful-new e (answer b e) (after b e) (length-after b e ∙ long) in
     let written : c ≡ b ++ r ++ drop (size + length r) part =
     h
-    ∙ (λ i. take size (whole i) ++ (stepRecord layout01 (take size (whole i)) e
-    ++ drop (size + length (stepRecord layout01 (take size (whole i)) e)) part))
+    ∙ (λ i. take size (whole i) ++ (stepRecord newLayout (take size (whole i)) e
+    ++ drop (size + length (stepRecord newLayout (take size (whole i)) e)) part))
     ∙ sym (append-assoc b r (drop (size + length r) part)) in
     let from : before ≡ place - size = omega (arith, k) in
     over-part s (b ++ r) c before (size + length r) (omega (arith, length-append b r, long)) (omega (arith, k, l, long′)) written
     ∙ written-same s r before size (omega (arith, k, l))
-    ∙ (λ i. writtenAt s (sym k i) (stepRecord layout01 (take size (drop (from i) s)) e))
+    ∙ (λ i. writtenAt s (sym k i) (stepRecord newLayout (take size (drop (from i) s)) e))

@@ -10,12 +10,12 @@ use lib.Seq.{take-at, drop-at, drop-drop, length-take-le}
 use lib.Dec.{leb, eqb}
 use borrow.Author.Tests.{eqb-true, eqb-false, leb-true, leb-false, eq-eqb, ne-eqb}
 use Rattle.rules.specs.declared.event.Event.{Event}
-use Rattle.trace.specs.Layout.{Layout, Lawful, layout01, mostSteps, placeOf, endSize}
-use Rattle.trace.specs.Published.{published}
-use Rattle.trace.specs.Report.{ACCEPTED, report}
-use Rattle.trace.proofs.Records.{length-published}
-use Rattle.trace.proofs.Lawful01.{lawful01}
-use Rattle.trace.proofs.Theorems as trace
+use Rattle.records.specs.Layout.{Layout, Lawful, newLayout, mostSteps, placeOf, endSize}
+use Rattle.records.specs.Published.{published}
+use Rattle.records.specs.Report.{ACCEPTED, report}
+use Rattle.records.proofs.Records.{length-published}
+use Rattle.records.proofs.Lawfuls.{lawful-new}
+use Rattle.records.proofs.Theorems as trace
 use Rattle.recorder.specs.Recorded.{DONE, BAD-SIZE, BAD-COUNT, NO-ROOM, writtenAt, traceSize, recordNumber, Recorded}
 use Rattle.recorder.specs.Theorems.{OfRecording, RecorderTheorems}
 use Rattle.recorder.proofs.Checks.{bad-size, bad-count, past-the-end, no-room, room, Passed, passed}
@@ -184,5 +184,5 @@ theorems L LL =
           ∙ sym (room L (length b) (length es) (length s) offset z few (omega (arith, l)) (omega (arith, l)));
     }
 
-pub theorems01 : RecorderTheorems layout01
-theorems01 = theorems layout01 lawful01
+pub theorems-new : RecorderTheorems newLayout
+theorems-new = theorems newLayout lawful-new

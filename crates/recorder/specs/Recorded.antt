@@ -8,9 +8,9 @@ use lib.ListN.{length, take, drop}
 use lib.Dec.{leb}
 use Rattle.state.specs.Choice.{if_then_else_, _is_}
 use Rattle.rules.specs.declared.event.Event.{Event}
-use Rattle.trace.specs.Layout.{Layout, startSize, stepSize, endSize, mostSteps}
-use Rattle.trace.specs.Published.{published}
-use Rattle.trace.specs.Report.{unless, _else_}
+use Rattle.records.specs.Layout.{Layout, startSize, stepSize, endSize, mostSteps}
+use Rattle.records.specs.Published.{published}
+use Rattle.records.specs.Report.{unless, _else_}
 pub use Rattle.state.specs.Number.{DONE, BAD-SIZE, BAD-COUNT, NO-ROOM}
 
 -- the bytes s with the bytes r in the place of its own from at on
@@ -22,7 +22,7 @@ module _ (L : Layout) where
   abbrev pub blockBefore : ℕ → List ℕ → List ℕ
   blockBefore place s = take (L .size) (drop (place - L .size) s)
 
-  -- the bytes of a trace of n Steps: in document 01's layout 192 + 200n
+  -- the bytes of a trace of n Steps: in the old layout 192 + 200n, in the new 196 + 204n
   abbrev pub traceSize : ℕ → ℕ
   traceSize n = startSize L + (stepSize L * n + endSize)
 

@@ -5,9 +5,9 @@ use mathlib.Core.List.{List}
 use Prim.Native.Nat.{ℕ, _+_, _-_, _<_, _≤_}
 use lib.ListN.{length, take, drop}
 use Rattle.rules.specs.declared.event.Event.{Event}
-use Rattle.trace.specs.Layout.{Layout, mostSteps}
-use Rattle.trace.specs.Published.{AreEvents, published}
-use Rattle.trace.specs.Report.{ACCEPTED, report}
+use Rattle.records.specs.Layout.{Layout, mostSteps}
+use Rattle.records.specs.Published.{AreEvents, published}
+use Rattle.records.specs.Report.{ACCEPTED, report}
 use Rattle.recorder.specs.Recorded.{DONE, BAD-SIZE, BAD-COUNT, NO-ROOM, traceSize, Recorded}
 
 -- of a recording of es from the block b, into s from the offset on, that returned n and left s′

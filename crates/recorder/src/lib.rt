@@ -4,18 +4,18 @@
 // needs no block of its own: the one before a Step is copied to its place in the new record, and stepped there.
 use machine::step::ANSWER_SIZE;
 use machine::step::replay;
+use records::layout;
 use rules::event::Event;
 use state::number;
 use state::place::BLOCK_SIZE;
-use trace::layout;
 use words::put_word;
 ghost use mathlib.Core.Path.{_≡_};
 ghost use mathlib.Core.List.{_++_};
 ghost use Prim.Native.Nat.{_+_, _-_, _≤_};
 ghost use lib.ListN.{length, take, drop};
 ghost use Rattle.state.specs.Choice.{if_then_else_, _is_};
-ghost use Rattle.trace.specs.Layout.{layout01, startSize, stepSize, endSize, mostSteps, placeOf, numberAt, blockAfterAt};
-ghost use Rattle.trace.specs.Published.{head, eventBytes, startRecord, stepRecord, endRecord};
+ghost use Rattle.records.specs.Layout.{newLayout, startSize, stepSize, endSize, mostSteps, placeOf, numberAt, blockAfterAt};
+ghost use Rattle.records.specs.Published.{head, eventBytes, startRecord, stepRecord, endRecord};
 ghost use Rattle.recorder.specs.Recorded.{DONE, writtenAt, blockBefore, traceSize, recordNumber};
 
 // The bytes of the records.
@@ -47,7 +47,7 @@ const AFTER_END: usize = AFTER + BLOCK_SIZE;
 
 fn trace_size(events: usize) -> usize
     requires { ⌜ events ≤ mostSteps ⌝ }
-    ensures { λ n. ⌜ n ≡ traceSize layout01 events ⌝ }
+    ensures { λ n. ⌜ n ≡ traceSize newLayout events ⌝ }
 {
     START_SIZE + (STEP_SIZE * events + END_SIZE)
 }
@@ -55,7 +55,7 @@ fn trace_size(events: usize) -> usize
 // What is answered, by the lengths of the block, the list of events and the buffer. The room is found by subtraction: a sum with
 // the offset could wrap.
 fn number_of(block: usize, events: usize, buffer: usize, offset: usize) -> u32
-    ensures { λ n. ⌜ n ≡ recordNumber layout01 block events buffer offset ⌝ }
+    ensures { λ n. ⌜ n ≡ recordNumber newLayout block events buffer offset ⌝ }
 {
     if block != BLOCK_SIZE {
         return number::BAD_SIZE;
@@ -75,8 +75,8 @@ fn number_of(block: usize, events: usize, buffer: usize, offset: usize) -> u32
 // ---- the writers, each on a part that begins with its record, a Step's with the block before it
 
 fn put_start(part: &mut [u8], count: u32, block: &[u8])
-    requires { ⌜ (length (now block) ≡ layout01 .size) × (startSize layout01 ≤ length (now part)) ⌝ }
-    ensures { λ _. ⌜ now (part .exit) ≡ startRecord layout01 count (now (block .entry)) ++ drop (startSize layout01) (now (part .entry)) ⌝ }
+    requires { ⌜ (length (now block) ≡ newLayout .size) × (startSize newLayout ≤ length (now part)) ⌝ }
+    ensures { λ _. ⌜ now (part .exit) ≡ startRecord newLayout count (now (block .entry)) ++ drop (startSize newLayout) (now (part .entry)) ⌝ }
 {
     put_word(part, HEAD, layout::START_SIZE + 65536 * layout::START_KIND);
     put_word(part, COUNT, count);
@@ -85,8 +85,8 @@ fn put_start(part: &mut [u8], count: u32, block: &[u8])
 
 // The block in front, copied to where the block after goes.
 fn copy_block(part: &mut [u8])
-    requires { ⌜ layout01 .size + stepSize layout01 ≤ length (now part) ⌝ }
-    ensures { λ _. ⌜ now (part .exit) ≡ writtenAt (now (part .entry)) (layout01 .size + blockAfterAt) (take (layout01 .size) (now (part .entry))) ⌝ }
+    requires { ⌜ newLayout .size + stepSize newLayout ≤ length (now part) ⌝ }
+    ensures { λ _. ⌜ now (part .exit) ≡ writtenAt (now (part .entry)) (newLayout .size + blockAfterAt) (take (newLayout .size) (now (part .entry))) ⌝ }
 {
     let mut i: usize = 0;
     while i < BLOCK_SIZE {
@@ -98,7 +98,7 @@ fn copy_block(part: &mut [u8])
 // What a Step says before its answer: its head and its event.
 fn put_event(part: &mut [u8], e: Event)
     requires { ⌜ numberAt ≤ length (now part) ⌝ }
-    ensures { λ _. ⌜ now (part .exit) ≡ (head (stepSize layout01) (layout01 .stepKind) ++ eventBytes e) ++ drop numberAt (now (part .entry)) ⌝ }
+    ensures { λ _. ⌜ now (part .exit) ≡ (head (stepSize newLayout) (newLayout .stepKind) ++ eventBytes e) ++ drop numberAt (now (part .entry)) ⌝ }
 {
     put_word(part, HEAD, layout::STEP_SIZE + 65536 * layout::STEP_KIND);
     put_word(part, CODE, e.code);
@@ -108,9 +108,9 @@ fn put_event(part: &mut [u8], e: Event)
 
 // The event is put before it is stepped: so the compiler need not keep its words through the step.
 fn put_step(part: &mut [u8], e: Event)
-    requires { ⌜ layout01 .size + stepSize layout01 ≤ length (now part) ⌝ }
-    ensures { λ _. ⌜ now (part .exit) ≡ writtenAt (now (part .entry)) (layout01 .size)
-        (stepRecord layout01 (take (layout01 .size) (now (part .entry))) e) ⌝ }
+    requires { ⌜ newLayout .size + stepSize newLayout ≤ length (now part) ⌝ }
+    ensures { λ _. ⌜ now (part .exit) ≡ writtenAt (now (part .entry)) (newLayout .size)
+        (stepRecord newLayout (take (newLayout .size) (now (part .entry))) e) ⌝ }
 {
     copy_block(part);
     put_event(&mut part[BLOCK_SIZE..], e);
@@ -131,8 +131,8 @@ fn put_end(part: &mut [u8], count: u32)
 
 // The checks, and where they are passed the Start, from the offset on.
 pub fn begin(block: &[u8], events: usize, buffer: &mut [u8], offset: usize) -> u32
-    ensures number { λ n. ⌜ n ≡ recordNumber layout01 (length (now (block .entry))) events (length (now (buffer .entry))) offset ⌝ }
-    ensures buffer { λ n. ⌜ now (buffer .exit) ≡ (if n is DONE then writtenAt (now (buffer .entry)) offset (startRecord layout01 events (now (block .entry))) else now (buffer .entry)) ⌝ }
+    ensures number { λ n. ⌜ n ≡ recordNumber newLayout (length (now (block .entry))) events (length (now (buffer .entry))) offset ⌝ }
+    ensures buffer { λ n. ⌜ now (buffer .exit) ≡ (if n is DONE then writtenAt (now (buffer .entry)) offset (startRecord newLayout events (now (block .entry))) else now (buffer .entry)) ⌝ }
 {
     let number = number_of(block.len(), events, buffer.len(), offset);
     if number == number::DONE {
@@ -143,9 +143,9 @@ pub fn begin(block: &[u8], events: usize, buffer: &mut [u8], offset: usize) -> u
 
 // The Step behind so many others, and behind the block that it goes from.
 pub fn go_on(buffer: &mut [u8], offset: usize, steps: usize, e: Event)
-    requires { ⌜ offset + placeOf layout01 steps + stepSize layout01 ≤ length (now buffer) ⌝ }
-    ensures { λ _. ⌜ now (buffer .exit) ≡ writtenAt (now (buffer .entry)) (offset + placeOf layout01 steps)
-        (stepRecord layout01 (blockBefore layout01 (offset + placeOf layout01 steps) (now (buffer .entry))) e) ⌝ }
+    requires { ⌜ offset + placeOf newLayout steps + stepSize newLayout ≤ length (now buffer) ⌝ }
+    ensures { λ _. ⌜ now (buffer .exit) ≡ writtenAt (now (buffer .entry)) (offset + placeOf newLayout steps)
+        (stepRecord newLayout (blockBefore newLayout (offset + placeOf newLayout steps) (now (buffer .entry))) e) ⌝ }
 {
     let before = offset + (layout::START_BLOCK + STEP_SIZE * steps);
     put_step(&mut buffer[before..], e);
@@ -153,8 +153,8 @@ pub fn go_on(buffer: &mut [u8], offset: usize, steps: usize, e: Event)
 
 // The End, behind all Steps.
 pub fn finish(buffer: &mut [u8], offset: usize, steps: usize)
-    requires { ⌜ (offset + placeOf layout01 steps + endSize ≤ length (now buffer)) × (steps ≤ mostSteps) ⌝ }
-    ensures { λ _. ⌜ now (buffer .exit) ≡ writtenAt (now (buffer .entry)) (offset + placeOf layout01 steps) (endRecord steps) ⌝ }
+    requires { ⌜ (offset + placeOf newLayout steps + endSize ≤ length (now buffer)) × (steps ≤ mostSteps) ⌝ }
+    ensures { λ _. ⌜ now (buffer .exit) ≡ writtenAt (now (buffer .entry)) (offset + placeOf newLayout steps) (endRecord steps) ⌝ }
 {
     let place = offset + (START_SIZE + STEP_SIZE * steps);
     put_end(&mut buffer[place..], steps as u32);

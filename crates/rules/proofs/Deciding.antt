@@ -14,13 +14,14 @@ use Rattle.state.specs.Choice.{if_then_else_, _is_, _among_}
 use Rattle.state.specs.Field.{mode-field}
 use Rattle.state.specs.Mode.{HYP}
 use Rattle.state.specs.Number.{DONE, BAD-SIZE, BAD-STATE, BAD-EVENT, NOT-HERE, NO-REGISTER}
-use Rattle.state.specs.Place.{PLACES, BLOCK-SIZE, NO-PLACE, CPSR, SCR, HCR}
+use Rattle.state.specs.Place.{PLACES, BLOCK-SIZE, NO-PLACE, CPSR, SCR, HCR, HDCR}
 use Rattle.state.specs.State.{fault, faultOf}
 use Rattle.state.proofs.Good.{faultRows, no-row}
 use Rattle.state.proofs.Sets.{among-append}
 use Rattle.state.proofs.Test.{at-one, refuted, true-is-not-false}
 use Rattle.entry.specs.Code.{synchronous-codes, other-codes, isSynchronous}
 use Rattle.entry.specs.Route as synchronous
+use Rattle.entry.proofs.Debug.{here-routed}
 use Rattle.interrupts.specs.declared.exception.Exception.the-variants.{Synchronous}
 use Rattle.banked.specs.Cell.{cell}
 use Rattle.banked.specs.Right.{right}
@@ -29,7 +30,8 @@ use Rattle.rules.specs.Event.{Event, INTERRUPT-CHECK, BANKED-READ, BANKE
 use Rattle.rules.specs.Event.{isKnown, valuesOfA, takesB, badEvent}
 use Rattle.rules.specs.Parts.{judgedPut}
 use Rattle.rules.specs.Refusal.{unknownMode, notGood, badReturn, refusal}
-use Rattle.rules.specs.Step.{Action, Refuse, Read, Put, takenBy, eventWay, foundIn, checkedIn, returned, doneAction, action}
+use Rattle.rules.specs.Step.{Action, Refuse, Read, Put, takenBy, routedIn, eventWay, foundIn, checkedIn, returned, doneAction}
+use Rattle.rules.specs.Step.{action}
 
 -- an event by its three words
 abbrev pub event : ℕ → ℕ → ℕ → Event
@@ -259,13 +261,17 @@ module _ (b : List ℕ) (a w : ℕ) (size : length b ≡ BLOCK-SIZE) (good : fau
       none : (n : ℕ) → isSynchronous n ≡ false → (code is n) ≡ false
       none = other code y
 
+      here : synchronous.notHere code (routedIn b code a) (word b CPSR) (word b SCR) ≡ synchronous.notHere code a (word b CPSR) (word b SCR)
+      here = here-routed code a (word b CPSR) (word b SCR) (word b HDCR)
+
       by : (t d : Bool) → synchronous.notHere code a (word b CPSR) (word b SCR) ≡ t
           → synchronous.disabled code (word b CPSR) (word b SCR) (word b HCR) ≡ d
           → takenBy Synchronous (eventWay b code a) ≡ action b (event code a w)
-      by true d e f = rw (s, k, g, none RETURN refl, h, y, e)
-      by false true e f = rw (s, k, g, none RETURN refl, h, y, e, f)
+      by true d e f = rw (here, s, k, g, none RETURN refl, h, y, e)
+      by false true e f = rw (here, s, k, g, none RETURN refl, h, y, e, f)
       by false false e f =
           rw (
+            here,
             s,
             k,
             g,

@@ -33,7 +33,7 @@ use Rattle.rules.specs.Parts.{Sound}
 use Rattle.rules.specs.Refusal.{refusal}
 use Rattle.rules.proofs.Deciding.{by-code}
 use Rattle.rules.proofs.Rows.{Passed, passed}
-use Rattle.rules.specs.Step.{Refuse, Take, takenBy, eventWay, foundIn, checked, doneAction, action}
+use Rattle.rules.specs.Step.{Refuse, Take, takenBy, routedIn, eventWay, foundIn, checked, doneAction, action}
 
 -- a way that is sound
 abbrev pub SoundWay : Way → Type 0
@@ -121,7 +121,7 @@ done-sound b code a w p =
     (λ e. tt)
     (λ o.
     taken-sound Synchronous (eventWay b code a)
-    (synchronous-sound code a (word b CPSR) (word b SCR) (word b HCR) (word b PC)))
+    (synchronous-sound code (routedIn b code a) (word b CPSR) (word b SCR) (word b HCR) (word b PC)))
 
 pub action-sound : (b : List ℕ) (e : Event) → Sound (action b e)
 unfolding action

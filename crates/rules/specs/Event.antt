@@ -5,7 +5,7 @@ use Prim.Native.Nat.{ℕ}
 use lib.Dec.{leb}
 use Rattle.state.specs.Choice.{if_then_else_, _is_, _among_}
 use Rattle.state.specs.Place.{PLACES}
-use Rattle.entry.specs.Code.{isAbort}
+use Rattle.entry.specs.Code.{PREFETCH-ABORT, DATA-ABORT}
 pub use Rattle.entry.specs.Code.{INTERRUPT-CHECK, BANKED-READ, BANKED-WRITE, NOTE, RETURN, isKnown}
 pub use Rattle.banked.specs.Cell.{CELL-VALUES}
 pub use Rattle.rules.specs.declared.event.Event.{Event}
@@ -14,13 +14,17 @@ pub use Rattle.rules.specs.declared.event.Event.{Event}
 abbrev pub isBanked : ℕ → Bool
 isBanked code = code among (BANKED-READ ∷ BANKED-WRITE ∷ [])
 
--- how many values A may have, counted from 0: one where it must be 0, the two bits of an abort, the five lines of a check, the
+-- how many values A may have, counted from 0: one where it must be 0, the two bits of an abort, and of a Prefetch Abort debug too,
+-- "4 with 1 or 2 is BAD_EVENT" (document 02, No. 11), the five lines of a check, the
 -- cells of a banked access, the places of a note, and what a return takes off, 0 to 8, of which its own row takes some out
 abbrev pub ZERO-ONLY : ℕ
 ZERO-ONLY = 1
 
 abbrev pub ABORT-VALUES : ℕ
 ABORT-VALUES = 4
+
+abbrev pub PREFETCH-VALUES : ℕ
+PREFETCH-VALUES = 5
 
 abbrev pub LINE-VALUES : ℕ
 LINE-VALUES = 32
@@ -31,7 +35,8 @@ OFF-VALUES = 9
 -- "A and B must be 0 where not named"
 abbrev pub valuesOfA : ℕ → ℕ
 valuesOfA code =
-    if isAbort code then ABORT-VALUES else
+    if code is PREFETCH-ABORT then PREFETCH-VALUES else
+    if code is DATA-ABORT then ABORT-VALUES else
     if code is INTERRUPT-CHECK then LINE-VALUES else
     if isBanked code then CELL-VALUES else
     if code is NOTE then PLACES else

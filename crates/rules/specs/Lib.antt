@@ -1,4 +1,5 @@
 pub mod Event
+pub mod Known
 pub mod Verdict
 pub mod Action
 pub mod Refusal

@@ -7,7 +7,7 @@ use Rattle.words.specs.Word.{le32, word, put}
 use Rattle.state.specs.Choice.{if_then_else_, _is_}
 use Rattle.state.specs.Field.{without}
 use Rattle.state.specs.Number.{DONE, BAD-SIZE}
-use Rattle.state.specs.Place.{BLOCK-SIZE, CPSR, PC, SCR, HCR}
+use Rattle.state.specs.Place.{BLOCK-SIZE, CPSR, PC, SCR, HCR, HDCR}
 use Rattle.entry.specs.Enter.{entered}
 use Rattle.entry.specs.Route as synchronous
 use Rattle.entry.specs.Way.{Way, Barred, Enter}
@@ -38,9 +38,13 @@ abbrev pub checked : ℕ → ℕ → ℕ → ℕ → ℕ → Found → Action
 checked lines cpsr scr hcr pc Nothing = Quiet lines
 checked lines cpsr scr hcr pc (First x) = takenBy x (interrupt.way x cpsr scr hcr pc)
 
--- by the words of a block: where an event or an interrupt goes, what a check of these lines finds, and what it comes to
+-- by the words of a block: the A that an event is routed by, where an event or an interrupt goes, what a check of these lines finds,
+-- and what it comes to
+abbrev pub routedIn : List ℕ → ℕ → ℕ → ℕ
+routedIn b code a = synchronous.routedA code a (word b CPSR) (word b SCR) (word b HDCR)
+
 abbrev pub eventWay : List ℕ → ℕ → ℕ → Way
-eventWay b code a = synchronous.way code a (word b CPSR) (word b SCR) (word b HCR) (word b PC)
+eventWay b code a = synchronous.way code (routedIn b code a) (word b CPSR) (word b SCR) (word b HCR) (word b PC)
 
 abbrev pub interruptWay : List ℕ → Exception → Way
 interruptWay b x = interrupt.way x (word b CPSR) (word b SCR) (word b HCR) (word b PC)
@@ -108,7 +112,7 @@ after b e = blockAfter b (action b e)
 abbrev pub answerBytes : Answer → List ℕ
 answerBytes r = le32 (r .number) ++ le32 (r .value)
 
--- the same over an answer buffer: "BAD_SIZE: block not 176 bytes, or answer buffer not 8", and then neither buffer changes
+-- the same over an answer buffer: "BAD_SIZE: block not 180 bytes, or answer buffer not 8", and then neither buffer changes
 abbrev pub sized : List ℕ → List ℕ → Bool
 sized b buffer = length b is BLOCK-SIZE && length buffer is ANSWER-SIZE
 

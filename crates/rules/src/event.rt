@@ -12,11 +12,13 @@ pub struct Event {
     pub b: u32,
 }
 
-// How many values A may have, counted from 0: one where it must be 0, the two bits of an abort, the five lines of a check,
-// the cells of a banked access, the places of a note.
+// How many values A may have, counted from 0: one where it must be 0, the two bits of an abort, and of a Prefetch Abort
+// debug too, the five lines of a check, the cells of a banked access, the places of a note.
 pub const ZERO_ONLY: u32 = 1;
 
 pub const ABORT_VALUES: u32 = 4;
+
+pub const PREFETCH_VALUES: u32 = 5;
 
 pub const LINE_VALUES: u32 = 32;
 

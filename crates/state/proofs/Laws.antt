@@ -5,9 +5,9 @@ use Prim.Native.Nat.{ℕ, _*_, _^_, _<_}
 use native.Mathlib.Nat.{one-mul, zero-mul}
 use lib.Dec.{ltb}
 use borrow.Author.Tests.{eqb-true, ltb-true}
-use Rattle.state.specs.Choice.{_is_}
+use Rattle.state.specs.Choice.{if_then_else_, _is_}
 use Rattle.state.specs.Field.{flag, mode-field, SCR-NS}
-use Rattle.state.specs.Mode.{MONITOR, USER, el1, targets, isTarget, spsrPlace, lrPlace}
+use Rattle.state.specs.Mode.{MONITOR, USER, el1, guest, targets, isTarget, spsrPlace, lrPlace}
 use Rattle.state.specs.Place.{PLACES}
 use Rattle.state.specs.State.{nsEl1, nsUser}
 use Rattle.state.proofs.Test.{at-one}
@@ -32,6 +32,18 @@ ns-el1 cpsr scr =
 pub ns-user : (cpsr scr : ℕ) → nsUser cpsr scr ≡ (SCR-NS scr && mode-field cpsr is USER)
 ns-user cpsr scr =
     apart (SCR-NS scr) (mode-field cpsr is MONITOR) (mode-field cpsr is USER) (monitor-no-user (mode-field cpsr))
+
+-- Non-secure User and NS EL1 together: NS, and a mode that a guest runs in
+both-of : (ns user el : Bool) → ((ns && user) || (ns && el)) ≡ (ns && (if user then true else el))
+both-of true true el = refl
+both-of true false el = refl
+both-of false user el = refl
+
+pub in-guest : (cpsr scr : ℕ) → (nsUser cpsr scr || nsEl1 cpsr scr) ≡ (SCR-NS scr && guest (mode-field cpsr))
+unfolding guest el1
+in-guest cpsr scr =
+    rw (ns-user cpsr scr, ns-el1 cpsr scr)
+    (both-of (SCR-NS scr) (mode-field cpsr is USER) (el1 (mode-field cpsr)))
 
 -- a mode that an exception can be taken to has a place for its saved state and one for its return address
 pub spsr-inside : (m : ℕ) → isTarget m ≡ true → spsrPlace m < PLACES

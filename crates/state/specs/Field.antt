@@ -86,6 +86,10 @@ HCR-TSC = bit 19
 abbrev pub HCR-TGE : ℕ → Bool
 HCR-TGE = bit 27
 
+-- HDCR (document 02, No. 11)
+abbrev pub HDCR-TDE : ℕ → Bool
+HDCR-TDE = bit 8
+
 -- SCTLR and HSCTLR
 abbrev pub SCTLR-V : ℕ → Bool
 SCTLR-V = bit 13

@@ -1,12 +1,16 @@
--- The places of the state block (document 01, "The state block"): 44 words, each with its place.
+-- The places of the state block (document 01, "The state block"; document 02, No. 11): 45 words, each with its place.
 use Prim.Native.Nat.{ℕ}
 
 -- the words and the bytes of a block
 abbrev pub PLACES : ℕ
-PLACES = 44
+PLACES = 45
 
 abbrev pub BLOCK-SIZE : ℕ
-BLOCK-SIZE = 176
+BLOCK-SIZE = 180
+
+-- of one without HDCR, as document 01 has it
+abbrev pub OLD-BLOCK-SIZE : ℕ
+OLD-BLOCK-SIZE = 176
 
 -- a mark where there is no place: no block, now or later, has so many words
 abbrev pub NO-PLACE : ℕ
@@ -150,3 +154,7 @@ HVBAR = 42
 
 abbrev pub MVBAR : ℕ
 MVBAR = 43
+
+-- 44: "The block gains place 44, HDCR"
+abbrev pub HDCR : ℕ
+HDCR = 44

@@ -1,6 +1,6 @@
 // The fields of the words that steer the rules (document 01, "The state block"), each by its register's name and its own.
 ghost use mathlib.Core.Path.{_≡_};
-ghost use Rattle.state.specs.Field.{CPSR-T, CPSR-F, CPSR-I, CPSR-A, SCR-NS, SCR-IRQ, SCR-FIQ, SCR-EA, SCR-FW, SCR-AW, SCR-SCD, SCR-HCE, HCR-FMO, HCR-IMO, HCR-AMO, HCR-VF, HCR-VI, HCR-VA, HCR-TSC, HCR-TGE, SCTLR-V};
+ghost use Rattle.state.specs.Field.{CPSR-T, CPSR-F, CPSR-I, CPSR-A, SCR-NS, SCR-IRQ, SCR-FIQ, SCR-EA, SCR-FW, SCR-AW, SCR-SCD, SCR-HCE, HCR-FMO, HCR-IMO, HCR-AMO, HCR-VF, HCR-VI, HCR-VA, HCR-TSC, HCR-TGE, HDCR-TDE, SCTLR-V};
 
 // CPSR.
 pub fn cpsr_t(cpsr: u32) -> bool
@@ -123,6 +123,13 @@ pub fn hcr_tge(hcr: u32) -> bool
     ensures { λ r. ⌜ r ≡ HCR-TGE hcr ⌝ }
 {
     hcr / 0x800_0000 % 2 == 1
+}
+
+// HDCR.
+pub fn hdcr_tde(hdcr: u32) -> bool
+    ensures { λ r. ⌜ r ≡ HDCR-TDE hdcr ⌝ }
+{
+    hdcr / 256 % 2 == 1
 }
 
 // SCTLR.

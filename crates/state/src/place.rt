@@ -1,7 +1,10 @@
-// The places of the state block (document 01, "The state block").
-pub const PLACES: usize = 44;
+// The places of the state block (document 01, "The state block"; document 02, No. 11).
+pub const PLACES: usize = 45;
 
-pub const BLOCK_SIZE: usize = 176;
+pub const BLOCK_SIZE: usize = 180;
+
+// Of a block without HDCR, as document 01 has it.
+pub const OLD_BLOCK_SIZE: usize = 176;
 
 // A mark where there is no place: no block, now or later, has so many words.
 pub const NO_PLACE: usize = 255;
@@ -97,3 +100,5 @@ pub const VBAR_NS: usize = 41;
 pub const HVBAR: usize = 42;
 
 pub const MVBAR: usize = 43;
+
+pub const HDCR: usize = 44;

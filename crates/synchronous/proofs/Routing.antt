@@ -12,17 +12,17 @@ use Rattle.state.specs.Choice.{_is_}
 use Rattle.state.specs.Field.{mode-field, SCR-EA}
 use Rattle.state.specs.Mode.{HYP, MONITOR, ABORT}
 use Rattle.state.specs.Number.{DONE, BAD-EVENT, NOT-HERE}
-use Rattle.state.specs.Place.{BLOCK-SIZE, CPSR, PC, SCR, HCR}
+use Rattle.state.specs.Place.{BLOCK-SIZE, CPSR, PC, SCR, HCR, HDCR}
 use Rattle.state.specs.State.{fault, secure}
 use Rattle.state.proofs.Sets.{among-append}
 use Rattle.entry.specs.Code.{synchronous-codes, other-codes, isSynchronous, external, stage2}
 use Rattle.entry.specs.Parts.{generalToHyp, abortWay}
-use Rattle.entry.specs.Route.{wrap, offsetTo, way}
+use Rattle.entry.specs.Route.{wrap, offsetTo, routedA, way}
 use Rattle.entry.specs.Way.{Way, Barred, Enter}
 use Rattle.interrupts.specs.declared.exception.Exception.the-variants.{Synchronous}
 use Rattle.rules.specs.Event.{BANKED-WRITE, NOTE, RETURN, valuesOfA, badEvent}
 use Rattle.rules.specs.Parts.{Lent, Ready, Told, Carried, abortMore}
-use Rattle.rules.specs.Step.{Action, Take, takenBy, action}
+use Rattle.rules.specs.Step.{Action, Take, takenBy, routedIn, action}
 use Rattle.rules.specs.Verdict.{refusedWith}
 use Rattle.rules.proofs.Carrying.{same-action, refused}
 use Rattle.rules.proofs.Deciding.{event, other, bad-event, at-synchronous}
@@ -76,31 +76,35 @@ pub unread : (b : List ℕ) → Bytes b → Read b (word b HCR) (word b PC)
 unread b h = as-read refl refl (spelt-fits b _ h)
 
 module _ {code : ℕ} {b m : List ℕ} {cpsr scr a w : ℕ} (e : Asked code b m cpsr scr a w) where
-  routed : {x : Way} {hcr pc : ℕ} → hcr ≡ word b HCR → pc ≡ word b PC → x ≡ way code a cpsr scr hcr pc
+  -- the A that it is routed by: its own, but for a debug abort that is trapped
+  abbrev pub its-a : ℕ
+  its-a = routedA code a cpsr scr (word b HDCR)
+
+  routed : {x : Way} {hcr pc : ℕ} → hcr ≡ word b HCR → pc ≡ word b PC → x ≡ way code its-a cpsr scr hcr pc
       → takenBy Synchronous x ≡ action b (event code a w)
   routed {x} eh ep h =
-      let words : x ≡ way code a (word b CPSR) (word b SCR) (word b HCR) (word b PC) =
+      let words : x ≡ way code (routedIn b code a) (word b CPSR) (word b SCR) (word b HCR) (word b PC) =
       rw (← e .lent .2, ← e .lent .3, ← eh, ← ep) h in
       ap (takenBy Synchronous) words
       ∙ at-synchronous b a w (e .lent .0) (e .good) code (e .well-formed) (e .kind)
 
-  pub barred : {k n : ℕ} {q : List ℕ} → Barred k ≡ way code a cpsr scr (word b HCR) (word b PC)
+  pub barred : {k n : ℕ} {q : List ℕ} → Barred k ≡ way code its-a cpsr scr (word b HCR) (word b PC)
       → Told (refusedWith k) n q → Carried b (action b (event code a w)) n b q
   barred {k} h t = refused b k (routed refl refl h) t
 
   -- the same by the words that were read
-  pub barred-by : {k n hcr pc : ℕ} {q : List ℕ} → Read b hcr pc → Barred k ≡ way code a cpsr scr hcr pc
+  pub barred-by : {k n hcr pc : ℕ} {q : List ℕ} → Read b hcr pc → Barred k ≡ way code its-a cpsr scr hcr pc
       → Told (refusedWith k) n q → Carried b (action b (event code a w)) n b q
   barred-by {k} d h t = refused b k (routed (d .hcr-read) (d .pc-read) h) t
 
   -- on what the rules call its way
-  pub on-its-way : {x : Way} {hcr pc n : ℕ} {l q : List ℕ} → Read b hcr pc → x ≡ way code a cpsr scr hcr pc
+  pub on-its-way : {x : Way} {hcr pc n : ℕ} {l q : List ℕ} → Read b hcr pc → x ≡ way code its-a cpsr scr hcr pc
       → Carried b (takenBy Synchronous x) n l q → Carried b (action b (event code a w)) n l q
   on-its-way d h t = same-action b (routed (d .hcr-read) (d .pc-read) h) t
 
   -- taken with a link that the rules spell as k
   pub taken : {to offset hcr pc k link n : ℕ} {l q : List ℕ} → Read b hcr pc → Carried b (Take Synchronous to offset link) n l q
-      → link ≡ k → Enter to offset k ≡ way code a cpsr scr hcr pc → Carried b (action b (event code a w)) n l q
+      → link ≡ k → Enter to offset k ≡ way code its-a cpsr scr hcr pc → Carried b (action b (event code a w)) n l q
   taken {to} {offset} d t s h = on-its-way d h (same-action b (ap (Take Synchronous to offset) s) t)
 
 -- an abort that asks for a stage 2 where there is none

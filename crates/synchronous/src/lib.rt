@@ -29,9 +29,11 @@ use entry::route::is_stage2;
 use entry::route::is_trapped;
 use entry::route::lacks_stage2;
 use entry::route::narrow_of;
+use entry::route::routed_a;
 use interrupts::exception::Exception;
 use rules::answer::refuse;
 use rules::event::ABORT_VALUES;
+use rules::event::PREFETCH_VALUES;
 use rules::event::ZERO_ONLY;
 use rules::event::beyond;
 use rules::taking::take;
@@ -232,10 +234,11 @@ pub fn prefetch_abort(
     requires { ⌜ Ready (now block) (now buffer) cpsr scr ⌝ }
     ensures { λ r. ⌜ Carried (now (block .entry)) (action (now (block .entry)) (record { code = PREFETCH-ABORT; a = a; b = b })) r (now (block .exit)) (now (buffer .exit)) ⌝ }
 {
-    if beyond(a, ABORT_VALUES, b) {
+    if beyond(a, PREFETCH_VALUES, b) {
         return refuse(buffer, number::BAD_EVENT);
     }
-    abort(block, cpsr, scr, a, offset::PREFETCH_ABORT, buffer)
+    let routed = routed_a(a, cpsr, scr, get_word(block, place::HDCR));
+    abort(block, cpsr, scr, routed, offset::PREFETCH_ABORT, buffer)
 }
 
 pub fn data_abort(block: &mut [u8], cpsr: u32, scr: u32, a: u32, b: u32, buffer: &mut [u8]) -> u32

@@ -4,12 +4,12 @@
 // of a directory or a closed input, prints CANNOT READ: it is not the end of the input.
 use libc::STDIN_FILENO;
 use libc::STDOUT_FILENO;
+use records::session::Progress;
+use records::session::RECORD_SIZE;
 use state::place::BLOCK_SIZE;
-use trace::session::Progress;
-use trace::session::RECORD_SIZE;
 
 fn print_report(p: Progress) {
-    let v = trace::session::close(p);
+    let v = session::close(p);
     io::print_decimal(STDOUT_FILENO, v.number as u64);
     io::write_all(STDOUT_FILENO, b" ");
     io::print_decimal(STDOUT_FILENO, v.place as u64);
@@ -39,14 +39,14 @@ fn read_some(
     let got = libc::read(STDIN_FILENO, run);
     let n = io::count(got, run);
     Turn {
-        progress: trace::session::feed(p, block, unfinished, &run[..n]),
+        progress: session::feed(p, block, unfinished, &run[..n]),
         got,
     }
 }
 
 // A proved loop ends, and nothing says that an input does: so the turns are counted, down from a number that no run uses up.
 fn judge_input(run: &mut [u8]) {
-    let opened = trace::session::open();
+    let opened = session::open();
     let mut p = opened.progress;
     let mut block = opened.block;
     let mut unfinished = opened.unfinished;

@@ -5,9 +5,9 @@ use mathlib.Core.List.{List, [], _∷_}
 use Prim.Native.Nat.{ℕ, zero, suc, _+_, _*_, _/_, _%_, _^_, _<_, _≤_}
 use native.Mathlib.Omega.{arith}
 use native.Mathlib.Numerals.{add-one, add-two, add-three}
-use lib.ListN.{length, getD, set, length-set}
+use lib.ListN.{length, getD, set, drop, length-set}
 use lib.Dec.{lit<}
-use lib.Seq.{sets, getD-set-same, getD-set-other, length-sets}
+use lib.Seq.{sets, getD-set-same, getD-set-other, length-sets, drop-set-lt}
 use Rattle.words.specs.Word.{le32, spelt, word, put, Bytes}
 
 pub length-put : (b : List ℕ) (p w : ℕ) → length (put b p w) ≡ length b
@@ -43,6 +43,15 @@ word-put-other b p w q n =
       byte-other b p w (4 * q + 2) (λ e. n (omega arith)),
       byte-other b p w (4 * q + 3) (λ e. n (omega arith)),
     )
+
+-- the bytes behind it stay
+pub drop-put : (b : List ℕ) (p w n : ℕ) → 4 * p + 4 ≤ n → drop n (put b p w) ≡ drop n b
+drop-put b p w n h =
+    rw (put-sets b p w)
+    (drop-set-lt n _ (4 * p + 3) _ (omega arith)
+    ∙ drop-set-lt n _ (4 * p + 2) _ (omega arith)
+    ∙ drop-set-lt n _ (4 * p + 1) _ (omega arith)
+    ∙ drop-set-lt n b (4 * p) _ (omega arith))
 
 -- the four bytes of a word spell it
 pub spells : (w : ℕ) → w < 2 ^ 32

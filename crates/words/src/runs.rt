@@ -22,7 +22,7 @@ fn same_between(a: &[u8], b: &[u8], from: usize, to: usize) -> bool
 }
 
 // Whether the two runs are the same bytes. The compiler takes 32 bytes at a time: the whole 32s are compared first, the
-// rest apart, so that neither loop has both to do. That is 7 instructions fewer for two blocks of 176 bytes.
+// rest apart, so that neither loop has both to do. That is 7 instructions fewer for two blocks.
 pub fn same(a: &[u8], b: &[u8]) -> bool
     ensures { λ r. ⌜ (r ≡ true) ↔ (now (a .entry) ≡ now (b .entry)) ⌝ }
 {

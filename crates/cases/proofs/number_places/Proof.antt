@@ -1,14 +1,15 @@
 -- Words put one after the other, each inside the block.
 use Prim.Native.Nat.{_≤_, _-_}
 use borrow.Author.Needs.{needs}
+use Rattle.state.specs.Place.{PLACES}
 use Rattle.cases.proofs.number_places.Statement.{statement}
 use Rattle.cases.proofs.number_places.Tie as tie
 
 abbrev Inv-loop : tie.InvT-loop
-Inv-loop block₀ p₀ block p = p ≤ 44
+Inv-loop block₀ p₀ block p = p ≤ PLACES
 
 abbrev μ-loop : tie.MeasureT-loop
-μ-loop block₀ p₀ block p = 44 - p
+μ-loop block₀ p₀ block p = PLACES - p
 
 loop-holds : tie.Need-loop-holds Inv-loop μ-loop
 loop-holds c = search needs

@@ -5,10 +5,10 @@ use native.Mathlib.Omega.{arith}
 use lib.ListN.{length}
 use borrow.Author.Needs.{needs}
 use borrow.Author.Tests.{eq-eqb, ne-eqb}
-use Rattle.trace.specs.Layout.{layout01, startSize}
-use Rattle.trace.specs.Published.{startRecord}
-use Rattle.trace.proofs.Lawful01.{lawful01}
-use Rattle.trace.proofs.Records.{length-start}
+use Rattle.records.specs.Layout.{newLayout, startSize}
+use Rattle.records.specs.Published.{startRecord}
+use Rattle.records.proofs.Lawfuls.{lawful-new}
+use Rattle.records.proofs.Records.{length-start}
 use Rattle.recorder.proofs.Checks.{Passed, passed}
 use Rattle.recorder.proofs.Writing.{length-part, over-part}
 use Rattle.recorder.proofs.begin.Statement.{statement}
@@ -19,10 +19,10 @@ abbrev start : tie.Then1 → tie.Start
 start c = c .before .before .before .before
 
 known : (c : tie.Then1)
-    → let x = start c .args in Passed layout01 (length (x .block .now)) (x .events) (length (x .buffer .now)) (x .offset)
+    → let x = start c .args in Passed newLayout (length (x .block .now)) (x .events) (length (x .buffer .now)) (x .offset)
 known c =
     let x = start c .args in
-    passed layout01 (length (x .block .now)) (x .events) (length (x .buffer .now)) (x .offset)
+    passed newLayout (length (x .block .now)) (x .events) (length (x .buffer .now)) (x .offset)
     (sym (c .before .number-of .ensures) ∙ c .if1 .taken)
 
 sub-put-start : tie.Need-sub-put-start
@@ -46,8 +46,8 @@ returns c =
     let x = start then .args in
     let k = known then in
     let written =
-    over-part (x .buffer .now) (startRecord layout01 (x .events) (x .block .now)) _ (x .offset) (startSize layout01)
-    (length-start layout01 lawful01 (x .events) (x .block .now) (k .size)) (omega (arith, k .inside))
+    over-part (x .buffer .now) (startRecord newLayout (x .events) (x .block .now)) _ (x .offset) (startSize newLayout)
+    (length-start newLayout lawful-new (x .events) (x .block .now) (k .size)) (omega (arith, k .inside))
     (c .before .before .put-start .ensures) in
     (then .before .number-of .ensures, simp (eq-eqb _ _ (then .if1 .taken)) written)
 

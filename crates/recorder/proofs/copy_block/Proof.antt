@@ -5,20 +5,20 @@ use native.Mathlib.Omega.{arith}
 use lib.ListN.{length}
 use lib.Seq.{paste}
 use borrow.Author.Needs.{needs}
-use Rattle.trace.specs.Layout.{layout01, blockAfterAt}
+use Rattle.records.specs.Layout.{newLayout, blockAfterAt}
 use Rattle.recorder.proofs.Moving.{moved-none, moved-next, moved-all, moved-length}
 use Rattle.recorder.proofs.copy_block.Statement.{statement}
 use Rattle.recorder.proofs.copy_block.Tie as tie
 
 -- where the copy begins
 abbrev to : ℕ
-to = layout01 .size + blockAfterAt
+to = newLayout .size + blockAfterAt
 
 abbrev Inv-loop : tie.InvT-loop
-Inv-loop part₀ i₀ part i = (i ≤ layout01 .size) × (part ≡ paste part₀ to part₀ i)
+Inv-loop part₀ i₀ part i = (i ≤ newLayout .size) × (part ≡ paste part₀ to part₀ i)
 
 abbrev μ-loop : tie.MeasureT-loop
-μ-loop part₀ i₀ part i = layout01 .size - i
+μ-loop part₀ i₀ part i = newLayout .size - i
 
 -- in a turn the part is as long as it was
 long : (c : tie.At-loop Inv-loop μ-loop) → length (c .loop .part) ≡ length (c .before .args .part .now)
@@ -54,8 +54,8 @@ returns : tie.Need-returns Inv-loop μ-loop
 returns c =
     let turn = c .before in
     let part₀ = turn .before .args .part .now in
-    let all : turn .loop .i ≡ layout01 .size = omega (arith, turn .loop .inv .0, c .loop-test .left) in
-    moved-all part₀ to (turn .loop .i) (layout01 .size) (turn .loop .part) all (turn .before .pre) (turn .loop .inv .1)
+    let all : turn .loop .i ≡ newLayout .size = omega (arith, turn .loop .inv .0, c .loop-test .left) in
+    moved-all part₀ to (turn .loop .i) (newLayout .size) (turn .loop .part) all (turn .before .pre) (turn .loop .inv .1)
 
 pub copy-block-spec : {M : Type 1} → statement M
 copy-block-spec =

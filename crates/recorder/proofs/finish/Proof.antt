@@ -1,9 +1,9 @@
 -- The part from the place on is written over from its front on.
 use borrow.Author.Needs.{needs}
 use Prim.Native.Nat.{_+_}
-use Rattle.trace.specs.Layout.{layout01, endSize, placeOf}
-use Rattle.trace.specs.Published.{endRecord}
-use Rattle.trace.proofs.Records.{length-end}
+use Rattle.records.specs.Layout.{newLayout, endSize, placeOf}
+use Rattle.records.specs.Published.{endRecord}
+use Rattle.records.proofs.Records.{length-end}
 use Rattle.recorder.proofs.Writing.{over-part}
 use Rattle.recorder.proofs.finish.Statement.{statement}
 use Rattle.recorder.proofs.finish.Tie as tie
@@ -12,7 +12,7 @@ returns : tie.Need-returns
 returns c =
     let start = c .before .before .before .before .before in
     let x = start .args in
-    over-part (x .buffer .now) (endRecord (x .steps)) _ (x .offset + placeOf layout01 (x .steps)) endSize
+    over-part (x .buffer .now) (endRecord (x .steps)) _ (x .offset + placeOf newLayout (x .steps)) endSize
     (length-end (x .steps)) (start .pre .0) (c .before .before .put-end .ensures)
 
 pub finish-spec : {M : Type 1} → statement M

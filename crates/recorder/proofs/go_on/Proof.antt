@@ -2,7 +2,7 @@
 use Prim.Native.Nat.{_+_, _*_}
 use native.Mathlib.Omega.{arith}
 use borrow.Author.Needs.{needs}
-use Rattle.trace.specs.Layout.{layout01, stepSize, placeOf, startBlockAt}
+use Rattle.records.specs.Layout.{newLayout, stepSize, placeOf, startBlockAt}
 use Rattle.recorder.proofs.Records.{step-behind}
 use Rattle.recorder.proofs.go_on.Statement.{statement}
 use Rattle.recorder.proofs.go_on.Tie as tie
@@ -11,8 +11,8 @@ returns : tie.Need-returns
 returns c =
     let start = c .before .before .before .before .before in
     let x = start .args in
-    step-behind (x .buffer .now) (x .offset + placeOf layout01 (x .steps))
-    (x .offset + (startBlockAt + stepSize layout01 * x .steps)) (x .e) (omega arith) (start .pre) (c .before .before .put-step .ensures)
+    step-behind (x .buffer .now) (x .offset + placeOf newLayout (x .steps))
+    (x .offset + (startBlockAt + stepSize newLayout * x .steps)) (x .e) (omega arith) (start .pre) (c .before .before .put-step .ensures)
 
 pub go-on-spec : {M : Type 1} → statement M
 go-on-spec =

@@ -2,37 +2,37 @@
 use mathlib.Core.Path.{_≡_, sym}
 use Prim.Native.Nat.{_<_, _≤_}
 use borrow.Author.Needs.{needs}
-use Rattle.trace.specs.Layout.{layout01}
+use Rattle.records.specs.Layout.{newLayout}
 use Rattle.recorder.proofs.Checks.{bad-size, bad-count, past-the-end, no-room, room}
 use Rattle.recorder.proofs.number_of.Statement.{statement}
 use Rattle.recorder.proofs.number_of.Tie as tie
 
 returns : tie.Need-returns
-returns c = let x = c .before .args in bad-size layout01 (x .block) (x .events) (x .buffer) (x .offset) (c .if1 .taken)
+returns c = let x = c .before .args in bad-size newLayout (x .block) (x .events) (x .buffer) (x .offset) (c .if1 .taken)
 
 returns-2 : tie.Need-returns-2
 returns-2 c =
     let x = c .before .before .args in
-    bad-count layout01 (x .block) (x .events) (x .buffer) (x .offset) (c .before .if1 .left) (c .if2 .taken)
+    bad-count newLayout (x .block) (x .events) (x .buffer) (x .offset) (c .before .if1 .left) (c .if2 .taken)
 
 returns-3 : tie.Need-returns-3
 returns-3 c =
     let few = c .before in
     let x = few .before .before .args in
-    past-the-end layout01 (x .block) (x .events) (x .buffer) (x .offset) (few .before .if1 .left) (few .if2 .left) (c .if3 .taken)
+    past-the-end newLayout (x .block) (x .events) (x .buffer) (x .offset) (few .before .if1 .left) (few .if2 .left) (c .if3 .taken)
 
 returns-4 : tie.Need-returns-4
 returns-4 c =
     let few = c .before .before .before in
     let x = few .before .before .args in
-    no-room layout01 (x .block) (x .events) (x .buffer) (x .offset) (few .before .if1 .left) (few .if2 .left)
+    no-room newLayout (x .block) (x .events) (x .buffer) (x .offset) (few .before .if1 .left) (few .if2 .left)
     (c .before .before .if3 .left) (rw (sym (c .before .trace-size .ensures)) (c .if4 .taken))
 
 returns-5 : tie.Need-returns-5
 returns-5 c =
     let few = c .before .before .before in
     let x = few .before .before .args in
-    room layout01 (x .block) (x .events) (x .buffer) (x .offset) (few .before .if1 .left) (few .if2 .left)
+    room newLayout (x .block) (x .events) (x .buffer) (x .offset) (few .before .if1 .left) (few .if2 .left)
     (c .before .before .if3 .left) (rw (sym (c .before .trace-size .ensures)) (c .if4 .left))
 
 pub number-of-spec : {M : Type 1} → statement M

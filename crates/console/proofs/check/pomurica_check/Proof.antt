@@ -8,7 +8,7 @@ use borrow.Author.Tests.{eq-eqb, ne-eqb}
 use Rattle.console.proofs.check.pomurica_check.Statement.{statement}
 use Rattle.console.proofs.check.pomurica_check.Tie as tie
 use Rattle.console.specs.Check.{reportSize, reportBytes, checkReturns, checkLeaves}
-use Rattle.trace.specs.declared.check.Report.{Report}
+use Rattle.records.specs.declared.report.Report.{Report}
 
 returns : tie.Need-returns
 unfolding checkReturns checkLeaves

@@ -4,7 +4,7 @@ use mathlib.Core.Path.{_≡_, ap, _∙_}
 use Prim.Native.Nat.{ℕ}
 use borrow.Author.Needs.{needs}
 use Rattle.words.specs.Word.{put}
-use Rattle.counts.specs.declared.lines.Written.{Written}
+use Rattle.count_lines.specs.declared.Written.{Written}
 use Rattle.console.specs.Count.{writtenBytes}
 use Rattle.console.proofs.Filled.{putAll, filled}
 use Rattle.console.proofs.Telling.{told-bad-answer, told-bad-counts, told-text}

@@ -24,8 +24,8 @@ use borrow.Fn.Learn.{no-owns}
 use borrow.Fn.Run.{Over}
 use borrow.Fn.World.{World}
 use borrow.Fn.Written as written
-use Rattle.trace.specs.Layout.{Layout, Lawful, layout01}
-use Rattle.trace.proofs.Lawful01.{lawful01}
+use Rattle.records.specs.Layout.{Layout, Lawful, newLayout}
+use Rattle.records.proofs.Lawfuls.{lawful-new}
 use Rattle.recorder.proofs.Reached.{Reached, reached-none, reached-next, reached-all, same-size, room-for-a-step}
 use Rattle.recorder.proofs.Reached.{room-for-the-end, not-begun, recorded-not, may-go-on, begun-length, begun-again}
 use Rattle.recorder.proofs.Reached.{recorded-all}
@@ -47,10 +47,10 @@ use Rattle.console.proofs.recording.pomurica_record.Proof.Claims.{post-
 use Rattle.console.proofs.recording.pomurica_record.Proof.Steps.{InvT, Writers, xs, hs, body, walk}
 
 abbrev L : Layout
-L = layout01
+L = newLayout
 
 abbrev LL : Lawful L
-LL = lawful01
+LL = lawful-new
 
 -- the turns go by the buffer s₁ that they find, in which the Start stands
 abbrev Inv : InvT

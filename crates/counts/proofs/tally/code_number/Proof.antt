@@ -1,4 +1,4 @@
--- The known codes are 1 to 12.
+-- The known codes are 1 to 13.
 use Rattle.counts.proofs.Codes.{numbered, unknown}
 use Rattle.counts.proofs.tally.code_number.Statement.{statement}
 use Rattle.counts.proofs.tally.code_number.Tie as tie

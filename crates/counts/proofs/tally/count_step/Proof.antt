@@ -1,12 +1,12 @@
 -- The four bumps are those of the Step that the bytes show.
-use mathlib.Core.Path.{_≡_, sym, ap, _∙_}
+use mathlib.Core.Path.{_≡_, ap, _∙_}
 use mathlib.Core.List.{List}
 use Prim.Native.Nat.{ℕ}
 use native.Mathlib.Omega.{arith}
 use borrow.Author.Needs.{needs}
 use Rattle.state.specs.Choice.{if_then_else_}
 use Rattle.entry.specs.Code.{isKnown}
-use Rattle.counts.specs.Counts.{Step, codeNumber, answerNumber}
+use Rattle.counts.specs.Counts.{Step}
 use Rattle.counts.specs.Parts.{Tally, shownStep, stepOf, targetNumber, takenNumber, bumped}
 use Rattle.counts.proofs.Bumping.{tally-up, same-target, same-taken, b1, b2, b3, tally1, tally2, tally3, all-bumped}
 use Rattle.counts.proofs.tally.count_step.Statement.{statement}

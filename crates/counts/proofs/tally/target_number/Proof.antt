@@ -1,5 +1,4 @@
 -- By the tests, one after another.
-use mathlib.Core.Path.{sym, _∙_}
 use borrow.Author.Needs.{needs}
 use Rattle.state.proofs.Test.{told}
 use Rattle.counts.proofs.Codes.{not-done-target, synchronous-target, other-target, nothing-target, check-target}

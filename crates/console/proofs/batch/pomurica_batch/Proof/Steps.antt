@@ -174,7 +174,7 @@ module _ (Inv : InvT) {M : Type 1} (𝓤 : URA M) (H : Heap 𝓤) (A : Atoms �
       -- if block.len() != BLOCK_SIZE { return BAD_SIZE; }
       (put W (oFld 3 (field 1 ∷ []) U64 8 lenV) 7 N (reads-mslice-len 𝓤 H A W By ByRef 2 8 refl, refl) (gone W U64) refl
       (λ u. refl) (λ u. tt)
-      ⨾ op W ne (oAt 7 U64 (valS N)) (oInt w64 176) 9 sBool (reads W N, refl) tt (gone W tyBool) refl (λ u. refl) (λ u. tt)
+      ⨾ op W ne (oAt 7 U64 (valS N)) (oInt w64 180) 9 sBool (reads W N, refl) tt (gone W tyBool) refl (λ u. refl) (λ u. tt)
       ⨾ join Γ0
       (free W 7 U64 (full W N)
       ∘ fork 9 (λ x. x) (reads W sBool) refl (free W 9 tyBool (full W sBool) ∘ refuse)

@@ -1,0 +1,10 @@
+pub mod Layout
+pub mod Published
+pub mod Report
+pub mod Judged
+pub mod Session
+pub mod Fed
+pub mod Claims
+pub mod Theorems
+pub mod Either
+pub mod Arrival

@@ -1,9 +1,0 @@
-pub mod Layout
-pub mod Published
-pub mod Report
-pub mod Judged
-pub mod Session
-pub mod Fed
-pub mod Claims
-pub mod Theorems
-pub mod Arrival
