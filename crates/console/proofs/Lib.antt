@@ -3,6 +3,7 @@ pub mod Telling
 pub mod Batching
 pub mod Listed
 pub mod Batches
+pub mod Guests
 pub mod Walking
 pub mod Lending
 pub mod Sessions

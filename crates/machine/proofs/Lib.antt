@@ -6,6 +6,7 @@ pub mod Numbers
 pub mod Leaving
 pub mod Debugging
 pub mod Denying
+pub mod Guest
 pub mod Returning
 pub mod Checking
 pub mod Tabled
@@ -14,4 +15,5 @@ pub mod Entering
 pub mod Walk
 pub mod Theorems
 pub mod Cases
+pub mod Differing
 pub mod Wrong

@@ -1,7 +1,7 @@
 -- What the step promises beyond its definition, each by name (docs/PROMISES.md): the numbers, what is left, the return, the
--- interrupt check, and what an entry leaves. The words of these statements are in specs/Claims.antt and specs/RoundTrip.antt; the
--- proofs stand in their own files.
-use mathlib.Core.Path.{_≡_, ap, _∙_}
+-- interrupt check, what an entry leaves, and what the guest can learn. The words of these statements are in specs/Claims.antt,
+-- specs/RoundTrip.antt and specs/Guest.antt; the proofs stand in their own files.
+use mathlib.Core.Path.{_≡_, refl, ap, _∙_}
 use mathlib.Core.Bool.{true, false}
 use mathlib.Core.List.{List, [], _∷_}
 use mathlib.Core.Logic.{_⊎_, _↔_}
@@ -34,12 +34,15 @@ use Rattle.rules.specs.Verdict.{value, refusedWith}
 use Rattle.rules.specs.declared.event.Event.{Event}
 use Rattle.machine.specs.Claims.{FirstRow, rowsLent, Accesses, EntersAsRouted, OneOf, TheFirst, CanBeTaken, EntersBy, Takes}
 use Rattle.machine.specs.Claims.{TakesNothing, Decided, debugTrappedIn, DebugToHyp, AsPlain, scrLeft, hcrLeft}
+use Rattle.machine.specs.Guest.{GuestTheorems}
 use Rattle.machine.specs.RoundTrip.{KeepsMode, back, RoundTrip}
 use Rattle.machine.proofs.Checking as checking
 use Rattle.machine.proofs.Debugging as debugging
 use Rattle.machine.proofs.Denying as denying
+use Rattle.machine.proofs.Differing as differing
 use Rattle.machine.proofs.Entering as entering
 use Rattle.machine.proofs.Goodness as goodness
+use Rattle.machine.proofs.Guest as guest
 use Rattle.machine.proofs.Laws.{number-is}
 use Rattle.machine.proofs.Leaving as leaving
 use Rattle.machine.proofs.Numbers as numbers
@@ -262,3 +265,16 @@ module _ (b : List ℕ) (e : Event) (bytes : Bytes b) (x : Exception) (to offset
   -- the half-written entry: a block with the right mode and a stale saved state is not what the step leaves
   pub stale-is-none : (l : List ℕ) → (word l (spsrPlace to) ≡ word b CPSR → ⊥) → l ≡ after b e → ⊥
   stale-is-none l n h = n (ap (λ (k : List ℕ). word k (spsrPlace to)) h ∙ entry-saves)
+
+-- ---- what the guest can learn (document 02, No. 12)
+
+pub guest-learns : GuestTheorems
+guest-learns =
+    record {
+      numbered = refl;
+      nothing-carried = guest.nothing-carried;
+      any-word-inside = guest.any-word-inside;
+      example = differing.example;
+      monitor-learns = differing.monitor-learns;
+      place-tells = differing.place-tells;
+    }

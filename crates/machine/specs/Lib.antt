@@ -1,2 +1,3 @@
 pub mod Claims
 pub mod RoundTrip
+pub mod Guest

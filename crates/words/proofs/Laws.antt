@@ -1,6 +1,6 @@
 -- What a reader expects of word and put: a word put is read back, the other words stay, the length stays, bytes stay bytes.
 -- Nothing outside this file looks inside the two definitions.
-use mathlib.Core.Path.{_≡_, _∙_}
+use mathlib.Core.Path.{_≡_, refl, _∙_}
 use mathlib.Core.List.{List, [], _∷_}
 use Prim.Native.Nat.{ℕ, zero, suc, _+_, _*_, _/_, _%_, _^_, _<_, _≤_}
 use native.Mathlib.Omega.{arith}
@@ -32,6 +32,27 @@ byte-other b p w j n =
     let n2 : (j ≡ 4 * p + 2 → ⊥) = λ e. n (omega arith) in
     let n3 : (j ≡ 4 * p + 3 → ⊥) = λ e. n (omega arith) in
     rw (put-sets b p w, getD-set-other, getD-set-other, getD-set-other, getD-set-other)
+
+-- into two lists of one length: a byte that both have alike, they have alike after it
+set-alike : (s t : List ℕ) (i v j : ℕ) → length s ≡ length t → getD s j 0 ≡ getD t j 0 → getD (set s i v) j 0 ≡ getD (set t i v) j 0
+set-alike [] [] i v j l h = h
+set-alike [] (y ∷ t) i v j l h = absurd (omega arith)
+set-alike (x ∷ s) [] i v j l h = absurd (omega arith)
+set-alike (x ∷ s) (y ∷ t) zero v zero l h = refl
+set-alike (x ∷ s) (y ∷ t) zero v (suc j) l h = h
+set-alike (x ∷ s) (y ∷ t) (suc i) v zero l h = h
+set-alike (x ∷ s) (y ∷ t) (suc i) v (suc j) l h = set-alike s t i v j (omega arith) h
+
+sets-alike : (s t : List ℕ) (i : ℕ) (vs : List ℕ) (j : ℕ) → length s ≡ length t → getD s j 0 ≡ getD t j 0
+    → getD (sets s i vs) j 0 ≡ getD (sets t i vs) j 0
+sets-alike s t i [] j l h = h
+sets-alike s t i (v ∷ vs) j l h =
+    sets-alike (set s i v) (set t i v) (suc i) vs j (omega (arith, length-set s i v, length-set t i v)) (set-alike s t i v j l h)
+
+pub byte-alike : (b c : List ℕ) (p w j : ℕ) → length b ≡ length c → getD b j 0 ≡ getD c j 0
+    → getD (put b p w) j 0 ≡ getD (put c p w) j 0
+unfolding put
+byte-alike b c p w j l h = sets-alike b c (4 * p) (le32 w) j l h
 
 -- a word put at p leaves the word at any other place
 pub word-put-other : (b : List ℕ) (p w q : ℕ) → (p ≡ q → ⊥) → word (put b p w) q ≡ word b q
