@@ -10,6 +10,7 @@ ghost use mathlib.Core.Path.{_≡_};
 ghost use Prim.Native.Nat.{_<_, _^_};
 ghost use lib.ListN.{length};
 ghost use Rattle.state.specs.Place.{BLOCK-SIZE};
+ghost use Rattle.rules.specs.Known.{direct};
 ghost use Rattle.rules.specs.Parts.{Carried};
 ghost use Rattle.rules.specs.Step.{
   ANSWER-SIZE,
@@ -25,6 +26,7 @@ use rules::answer::NUMBER;
 use rules::answer::VALUE;
 use rules::answer::refuse;
 use rules::event::Event;
+use rules::known::direct_code;
 use rules::verdict::Answer;
 use state::number;
 use state::place;
@@ -170,10 +172,10 @@ fn advance_sized(block: &mut [u8], code: u32, a: u32, b: u32, buffer: &mut [u8])
     }
 }
 
-// The same, for who goes through a list of events. Both words are read back from the buffer: they go on as one.
+// A direct step, for who goes through a list of events. Both words are read back from the buffer: they go on as one.
 pub fn advance(block: &mut [u8], e: Event) -> Answer
-    ensures answers { λ r. ⌜ r ≡ answer (now (block .entry)) e ⌝ }
-    ensures leaves { λ _. ⌜ now (block .exit) ≡ after (now (block .entry)) e ⌝ }
+    ensures answers { λ r. ⌜ r ≡ answer (now (block .entry)) (direct e) ⌝ }
+    ensures leaves { λ _. ⌜ now (block .exit) ≡ after (now (block .entry)) (direct e) ⌝ }
 {
     if block.len() != place::BLOCK_SIZE {
         return Answer {
@@ -182,7 +184,7 @@ pub fn advance(block: &mut [u8], e: Event) -> Answer
         };
     }
     let mut buffer = [0u8; ANSWER_SIZE];
-    advance_sized(block, e.code, e.a, e.b, &mut buffer);
+    advance_sized(block, direct_code(e.code, e.a), e.a, e.b, &mut buffer);
     Answer {
         number: get_word(&buffer, NUMBER),
         value: get_word(&buffer, VALUE),
