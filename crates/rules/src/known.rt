@@ -1,4 +1,5 @@
 // What a layout of a trace knows of the events, and a direct step with it (document 02, Nos. 11 and 13).
+ghost use mathlib.Core.Bool.{false};
 ghost use Rattle.rules.specs.Known.{SeenCode};
 use entry::code::INTERRUPT_CHECK;
 use entry::code::NOTE;
