@@ -347,12 +347,45 @@ static struct event event_of_new(struct chance *chance)
     }
 }
 
+/* A note on the way to a guest that can take a virtual interrupt: else few Steps of a trace are in one. */
+static struct event guest_note(struct chance *chance, const uint8_t *block)
+{
+    if ((get(block, SCR) & SCR_NS) == 0)
+        return (struct event){ CODE_NOTE, SCR, get(block, SCR) | SCR_NS };
+    if ((get(block, HCR) & HCR_TGE) != 0)
+        return (struct event){ CODE_NOTE, HCR, any_word(chance) & ~(uint32_t)HCR_TGE };
+    return (struct event){ CODE_NOTE, CPSR, MODES[any_below(chance, MODE_COUNT)] };
+}
+
+static bool is_unmasked(const uint8_t *block)
+{
+    return (get(block, CPSR) & (CPSR_A | CPSR_I | CPSR_F)) == 0;
+}
+
+/* Events that came with a later request: never among those of the old layout without strays, which stay as they were. */
+static bool is_later(struct chance *chance, const uint8_t *block, struct event *event)
+{
+    if (chance->old && !chance->strays)
+        return false;
+    if (one_in(chance, 32))
+        *event = event_of_new(chance);
+    else if (!chance->old && one_in(chance, 48))
+        *event = event_of_old(chance);
+    else if (one_in(chance, 8))
+        *event = guest_note(chance, block);
+    else if (is_unmasked(block) && one_in(chance, 2))
+        *event = event_of(chance, CODE_INTERRUPT_CHECK, block);
+    else
+        return false;
+    return true;
+}
+
 struct event any_event(struct chance *chance, const uint8_t *block)
 {
-    if ((!chance->old || chance->strays) && one_in(chance, 32))
-        return event_of_new(chance);
-    if (!chance->old && one_in(chance, 48))
-        return event_of_old(chance);
+    struct event later;
+
+    if (is_later(chance, block, &later))
+        return later;
     if (one_in(chance, 10))
         return odd_event(chance, block);
     if (one_in(chance, 8)) /* the event with the most cases */
