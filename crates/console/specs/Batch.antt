@@ -11,8 +11,7 @@ use Rattle.state.specs.Number.{DONE, BAD-SIZE}
 use Rattle.state.specs.Place.{BLOCK-SIZE}
 use Rattle.rules.specs.declared.event.Event.{Event}
 use Rattle.rules.specs.declared.verdict.Answer.{Answer}
-use Rattle.rules.specs.Known.{directs}
-use Rattle.rules.specs.Run.{run, answers}
+use Rattle.rules.specs.Direct.{directRun, directAnswers}
 
 -- do the lengths go together?
 abbrev pub suits : List Event → List Answer → List ℕ → Bool
@@ -21,5 +20,5 @@ suits es room b = (length es is length room) && (length b is BLOCK-SIZE)
 -- what a batch of es on the block b, over a list of answers, returns and leaves
 pub record Batched (es : List Event) (room : List Answer) (b : List ℕ) (n : ℕ) (room′ : List Answer) (b′ : List ℕ) : Type 0 where
   pub number : n ≡ (if suits es room b then DONE else BAD-SIZE)
-  pub answered : room′ ≡ (if suits es room b then answers b (directs es) else room)
-  pub block : b′ ≡ (if suits es room b then run b (directs es) else b)
+  pub answered : room′ ≡ (if suits es room b then directAnswers b es else room)
+  pub block : b′ ≡ (if suits es room b then directRun b es else b)

@@ -2,7 +2,6 @@
 ghost use mathlib.Core.Path.{_≡_};
 ghost use Rattle.rules.specs.Known.{direct};
 ghost use Rattle.rules.specs.Step.{numberReturned, blockLeft, answerLeft};
-use rules::known::direct_code;
 
 // The number is returned, and number and value are written to the answer buffer. On BAD_SIZE neither buffer changes.
 #[no_mangle]
@@ -19,5 +18,5 @@ pub extern "C" fn pomurica_step(
     ensures answers { λ _. ⌜ now (answer .exit)
         ≡ answerLeft (now (block .entry)) (direct (record { code = code; a = a; b = b })) (now (answer .entry)) ⌝ }
 {
-    machine::step::step(block, direct_code(code, a), a, b, answer)
+    machine::step::step(block, code, a, b, answer)
 }

@@ -2,7 +2,6 @@
 -- an event of no code, which is BAD_EVENT. A direct step, which C, a batch and the recorder make, knows what the new layout does.
 use mathlib.Core.Path.{_≡_}
 use mathlib.Core.Bool.{Bool, true, false, _&&_, _||_}
-use mathlib.Core.List.{List, [], _∷_}
 use Prim.Native.Nat.{ℕ}
 use Rattle.state.specs.Choice.{if_then_else_, _is_}
 use Rattle.state.specs.Field.{bit}
@@ -40,10 +39,6 @@ seen old e = if unknown old e then record { code = NO-CODE; a = e .a; b = e .b }
 -- as a direct step does
 abbrev pub direct : Event → Event
 direct e = seen false e
-
-abbrev pub directs : List Event → List Event
-directs [] = []
-directs (e ∷ es) = direct e ∷ directs es
 
 -- the code of an event as the layout sees it, its operands being as they are
 abbrev pub SeenCode : Bool → ℕ → ℕ → ℕ → Type 0
