@@ -194,9 +194,10 @@ enum pomurica_abort {
  * traces of the old layout alone, which are judged with them.  In the new layout,
  * and by pomurica_step, pomurica_batch and pomurica_record, a check with either
  * is refused with POMURICA_BAD_EVENT, whatever else A has: there a virtual FIQ is
- * brought by HCR.VF, and a virtual IRQ by HCR.VI, which a note on HCR sets, and a
- * check with any of the other lines, or with none, takes it.  (As ever that is in
- * Non-secure User or EL1, with TGE 0, and FMO or IMO 1, of HCR too.)
+ * brought by HCR.VF, and a virtual IRQ by HCR.VI.  A note on HCR sets the bit, and
+ * a check takes the interrupt, also one without a line, unless another exception
+ * goes before it.  (As ever that is in Non-secure User or EL1, with HCR.TGE 0, its
+ * HCR.FMO or HCR.IMO 1, and its mask bit 0.)
  */
 enum pomurica_line {
     POMURICA_LINE_SERROR = 1,
