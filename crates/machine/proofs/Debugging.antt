@@ -19,7 +19,6 @@ use Rattle.entry.specs.Route.{notHere, disabled, toMonitor, toHyp}
 use Rattle.entry.specs.Route as synchronous
 use Rattle.entry.proofs.Debug.{of-guest}
 use Rattle.rules.specs.Event.{badEvent}
-use Rattle.rules.specs.Known.{DEBUG}
 use Rattle.rules.specs.Refusal.{refusal}
 use Rattle.rules.specs.Step.{routedIn, action, doneAction, answerTo, blockAfter, answer, after}
 use Rattle.rules.proofs.Deciding.{fault-clear}
@@ -40,7 +39,7 @@ module _ (b : List ℕ) where
         or-second true u e = absurd (true-is-not-false refl e)
         or-second false u e = e
 
-    as-stage2 : routedIn b PREFETCH-ABORT DEBUG ≡ STAGE-2
+    as-stage2 : routedIn b PREFETCH-ABORT 4 ≡ STAGE-2
     as-stage2 = rw h refl
 
     pub to-hyp : target b debugAbort ≡ HYP

@@ -26,7 +26,7 @@ use Rattle.interrupts.specs.declared.exception.Exception.the-variants.{Synchron
 use Rattle.interrupts.specs.declared.exception.Exception.the-variants.{VirtualSError, VirtualFiq, VirtualIrq}
 use Rattle.banked.specs.Cell.{cell}
 use Rattle.rules.specs.Event.{INTERRUPT-CHECK, isBanked, badEvent}
-use Rattle.rules.specs.Known.{DEBUG, direct}
+use Rattle.rules.specs.Known.{direct}
 use Rattle.rules.specs.Refusal.{rows, refusal}
 use Rattle.rules.specs.Step.{routedIn, vaCleared, answer, after, sized, numberReturned, blockLeft, answerLeft}
 use Rattle.rules.specs.Verdict.{entryTo, answerFor}
@@ -128,7 +128,7 @@ module _ (b : List ℕ) (e : Event) where
 
 -- Prefetch Abort with A 4, debug; and with A 0
 abbrev pub debugAbort : Event
-debugAbort = record { code = PREFETCH-ABORT; a = DEBUG; b = 0 }
+debugAbort = record { code = PREFETCH-ABORT; a = 4; b = 0 }
 
 abbrev pub plainAbort : Event
 plainAbort = record { code = PREFETCH-ABORT; a = 0; b = 0 }

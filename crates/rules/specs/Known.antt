@@ -28,11 +28,12 @@ virtualLines lines = bit 3 lines || bit 4 lines
 abbrev pub unknownToNew : Event → Bool
 unknownToNew e = e .code is INTERRUPT-CHECK && virtualLines (e .a)
 
--- the event as a layout sees it, the old one or the new
+-- what the old layout, true, and the new one do not know
 abbrev pub unknown : Bool → Event → Bool
 unknown true e = unknownToOld e
 unknown false e = unknownToNew e
 
+-- the event as a layout sees it
 unfoldable pub seen : Bool → Event → Event
 seen old e = if unknown old e then record { code = NO-CODE; a = e .a; b = e .b } else e
 

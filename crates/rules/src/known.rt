@@ -15,8 +15,7 @@ const HDCR_PLACE: u32 = place::HDCR as u32;
 
 const VIRTUAL_LINES: u32 = 8;
 
-// The code of an event as a layout sees it: one that it does not know is none. The new layout, and a direct step, know no virtual
-// line; lines past both of them are none of an event's.
+// The code of an event as a layout sees it: one that it does not know is none.
 pub fn seen_code(old: bool, code: u32, a: u32) -> u32
     ensures { λ n. ⌜ SeenCode old code a n ⌝ }
 {
@@ -37,7 +36,7 @@ pub fn seen_code(old: bool, code: u32, a: u32) -> u32
     code
 }
 
-// As a direct step sees it.
+// As a direct step sees it, and the new layout: a check with a virtual line is none. The two lines are the bits from VIRTUAL_LINES on.
 pub fn direct_code(code: u32, a: u32) -> u32
     ensures { λ n. ⌜ SeenCode false code a n ⌝ }
 {
