@@ -4,7 +4,8 @@ use mathlib.Core.Bool.{Bool, true, _&&_}
 use mathlib.Core.List.{List, [], _∷_}
 use Prim.Native.Nat.{ℕ, zero, suc, _+_, _-_, _*_, _/_, _%_, _^_, _<_, _≤_}
 use native.Mathlib.Omega.{arith}
-use native.Mathlib.Nat.{suc-add, add-zero, pow-succ', one-le-pow, add-mul, mul-assoc, add-assoc, one-mul, zero-mul, zero-add, mul-le-mul-right}
+use native.Mathlib.Nat.{suc-add, add-zero, add-assoc, zero-add, add-mul, mul-assoc, one-mul, zero-mul, mul-le-mul-right}
+use native.Mathlib.Nat.{pow-succ', one-le-pow}
 use native.Mathlib.Nat.{mod-lt, mod-one, mod-eq-of-lt, div-eq-of-lt, div-add-mod', mul-add-div-right, mul-add-mod-self-right}
 use lib.Dec.{leb}
 use borrow.Author.Tests.{eqb-true, leb-true}

@@ -8,19 +8,20 @@ use Prim.Native.Nat.{ℕ, _+_, _*_, _/_, _%_, _^_, _<_, _≤_}
 use native.Mathlib.Omega.{arith}
 use native.Mathlib.Nat.{mod-eq-of-lt}
 use lib.Dec.{ltb, lit<}
-use borrow.Author.Tests.{eq-eqb, eqb-true, eqb-false, lt-ltb}
+use borrow.Author.Tests.{eq-eqb, ne-eqb, eqb-true, eqb-false, lt-ltb}
 use Rattle.state.specs.Choice.{if_then_else_, _is_}
 use Rattle.state.specs.Number.{DONE, NOT-BANKED}
 use Rattle.state.proofs.Test.{and-left, and-right, both, refuted, true-is-not-false}
 use Rattle.entry.specs.Code.{BANKED-READ, BANKED-WRITE}
 use Rattle.instruction.specs.Encoding.{Name, Value, must-be, should-be, any, Field, MRS, MSR, values, in-word}
-use Rattle.instruction.specs.Instruction.{Parts, encoding, total, agrees, laidOut, partsIn, inRange, isOf, no-parts, isRead}
-use Rattle.instruction.specs.Instruction.{in-a, in-condition, in-register, reading, readNumber, areParts, given, holds, fieldOf, writing, writeNumber}
+use Rattle.instruction.specs.Instruction.{Parts, encoding, in-a, in-condition, in-register, total, agrees, laidOut, partsIn}
+use Rattle.instruction.specs.Instruction.{inRange, isOf, no-parts, isRead, reading, readNumber, areParts, given, holds, fieldOf}
+use Rattle.instruction.specs.Instruction.{writing, writeNumber}
 use Rattle.instruction.specs.Places.{aIn}
 use Rattle.instruction.specs.Theorems.{Written, InstructionTheorems}
 use Rattle.instruction.proofs.Reading.{not-both}
 use Rattle.instruction.proofs.Tables.{Tiles, tiled, Each, unit, whole, below, put-is-in, same-total}
-use Rattle.instruction.proofs.Writing.{inRanges, ranges}
+use Rattle.instruction.proofs.Writing.{inRanges, ranges, mrs-word, msr-word}
 
 -- ---- a field by its value
 
@@ -320,6 +321,33 @@ is-word p = by (areParts p) refl
     by : (t : Bool) → areParts p ≡ t → writing p < 2 ^ 32
     by true h = word-below p h
     by false h = subst (λ v. v < 2 ^ 32) (sym (not-written p (λ z. true-is-not-false (are-parts p z) h) .1)) (lit< tt)
+
+-- ---- the numbers by what was read and written: the parts of no instruction have no code, and no instruction is the word 0
+
+pub number-by-code : (w : ℕ) → readNumber w ≡ (if reading w .code is 0 then NOT-BANKED else DONE)
+unfolding readNumber reading
+number-by-code w = by (isOf BANKED-READ w) (isOf BANKED-WRITE w)
+  where
+    by : (t u : Bool)
+        → (if t || u then DONE else NOT-BANKED)
+        ≡ (if (if t then partsIn BANKED-READ w else if u then partsIn BANKED-WRITE w else no-parts) .code is 0 then NOT-BANKED else DONE)
+    by true u = refl
+    by false true = refl
+    by false false = refl
+
+not-zero : (p : Parts) → areParts p ≡ true → writing p ≡ 0 → ⊥
+not-zero p are z =
+    let r = ranges p (in-ranges p are) in
+    by-code p are ⊥ (λ e. omega (arith, mrs-word p (r .0) (r .1) (r .2) e, z)) (λ e. omega (arith, msr-word p (r .0) (r .1) (r .2) e, z))
+
+pub number-by-word : (p : Parts) → writeNumber p ≡ (if writing p is 0 then NOT-BANKED else DONE)
+number-by-word p = by (areParts p) refl
+  where
+    by : (t : Bool) → areParts p ≡ t → writeNumber p ≡ (if writing p is 0 then NOT-BANKED else DONE)
+    by true h = number-written p h ∙ sym (ap (λ t. if t then NOT-BANKED else DONE) (ne-eqb (writing p) 0 (not-zero p h)))
+    by false h =
+        let none = not-written p (λ z. true-is-not-false (are-parts p z) h) in
+        none .0 ∙ sym (ap (λ t. if t then NOT-BANKED else DONE) (eq-eqb (writing p) 0 (none .1)))
 
 pub theorems : InstructionTheorems
 unfolding reading
