@@ -9,7 +9,7 @@
 /* What some editors put before text in UTF-8. */
 static const char MARK[] = "\xEF\xBB\xBF";
 
-/* More than the bytes of any character, and of any end of a line. */
+/* The last bytes of a full room may be of a character, or of the end of a line, that is not there whole. */
 enum { HELD_BACK = 4 };
 
 int open_log(struct log *log, const char *name)
@@ -24,7 +24,7 @@ void close_log(struct log *log)
     close_input(&log->input);
 }
 
-/* Brings more text behind what has not been given. */
+/* Brings more text behind what has not been given; there is room for some. */
 static int fill(struct log *log)
 {
     size_t got;
