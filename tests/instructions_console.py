@@ -183,7 +183,7 @@ def try_long():
     log = b''.join(b'E1002200 ' + b'.' * (ROOM - size) + end for size in range(24) for end in (b'\n', b'\r\n', b'\r\r\n', b'\0\n'))
     expect_log('ends where the room ends', log)
     expect_log('bytes that go on with nothing', b'E1002200 ' + b'\x80' * (3 * ROOM) + b'\n0\n')
-    expect_log('a mark of UTF-8 where the room ends is text', b'E1002200 ' + b'.' * (ROOM - HELD_BACK - 9) + b'\xef\xbb\xbf\n')
+    expect_log('a mark of UTF-8 where the room ends is text', b'E1002200 ' + b'.' * (ROOM - HELD_BACK - 9) + b'\xef\xbb\xbf more\n')
     expect_log('and a field that goes on behind it is no word', b' ' * (ROOM - HELD_BACK - 4) + b'1' * 16 + b'\n0\n')
     expect_log('a line of 3 MB, and one behind it', b'E1002200 ' + b'all in one line ' * (3 << 16) + b'\nE120F202\n')
     expect_log('a last line of 3 MB', b'0\nE1002200 ' + '\u20ac'.encode() * (1 << 20), by_pipe=True)
