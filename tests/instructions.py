@@ -138,15 +138,16 @@ def is_loosely_told(word):
     return word & 0x0FB0F200 == 0x0120F200 and word & 0x00000CF0 != 0
 
 
-def differing(words, ours, theirs):
-    return [(f'{word:08X}', one, other) for word, one, other in zip(words, ours, theirs, strict=True) if one != other]
+def differing(names, ours, theirs):
+    return [(name, one, other) for name, one, other in zip(names, ours, theirs, strict=True) if one != other]
 
 
 def main():
     words = write(INSTRUCTIONS)
     expect(f'{len(words)} words are written, each another', [] if len(set(words)) == len(words) == 28800 else words)
-    expect('and read back', differing(words, read(words), INSTRUCTIONS))
-    expect('and so disassembled', differing(words, INSTRUCTIONS, map(understood, disassembled(words))))
+    digits = [f'{word:08X}' for word in words]
+    expect('and read back', differing(digits, read(words), INSTRUCTIONS))
+    expect('and so disassembled', differing(digits, INSTRUCTIONS, map(understood, disassembled(words))))
     named = [parts for parts in INSTRUCTIONS if parts.a in NAMES]
     expect(f'{len(named)} of them have a name, {len(NAMES)} of 64 A',
            [] if len(named) == len(NAMES) * 450 == 33 * 450 else [len(named)])
