@@ -12,26 +12,20 @@
 #include <inttypes.h>
 #include <stdio.h>
 
-/* No. 14: the bytes of the parts, and of a word. */
-enum {
-    PARTS_SIZE = 16,
-    WORD_SIZE = 4
-};
-
 static void read_word(uint32_t word)
 {
-    uint8_t parts[PARTS_SIZE];
+    uint8_t parts[POMURICA_PARTS_SIZE];
     const uint32_t number = pomurica_read_instruction(word, parts, sizeof parts);
 
     printf("%" PRIu32, number);
-    for (size_t part = 0; part < PARTS_SIZE / WORD_SIZE; part++)
+    for (size_t part = POMURICA_PARTS_CODE; part <= POMURICA_PARTS_REGISTER; part++)
         printf(" %" PRIu32, pomurica_get_word(parts, part));
     printf("\n");
 }
 
 static void write_word(uint32_t code, uint32_t a, uint32_t condition, uint32_t reg)
 {
-    uint8_t word[WORD_SIZE];
+    uint8_t word[POMURICA_WORD_SIZE];
     const uint32_t number = pomurica_write_instruction(code, a, condition, reg, word, sizeof word);
 
     printf("%" PRIu32 " %08" PRIX32 "\n", number, pomurica_get_word(word, 0));
