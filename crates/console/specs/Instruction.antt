@@ -6,7 +6,8 @@ use lib.ListN.{length}
 use Rattle.words.specs.Word.{le32}
 use Rattle.state.specs.Choice.{if_then_else_, _is_}
 use Rattle.state.specs.Number.{BAD-SIZE}
-use Rattle.instruction.specs.Instruction.{Parts, reading, readNumber, writing, writeNumber}
+use Rattle.instruction.specs.Instruction.{reading, readNumber, writing, writeNumber}
+use Rattle.instruction.specs.declared.Parts.{Parts}
 
 abbrev pub partsSize : ℕ
 partsSize = 16
