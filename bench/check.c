@@ -33,21 +33,10 @@ ALWAYS_INLINE void take_block(bool old, const uint8_t *bytes, uint8_t *block)
         put(block, POMURICA_PLACE_HDCR, 0);
 }
 
-/* The code of a Step; in the old layout none for a debug abort and a note on HDCR. */
-ALWAYS_INLINE uint32_t code_of(bool old, const uint8_t *step)
-{
-    const uint32_t code = get(step, CODE), a = get(step, CODE + 1);
-
-    if (old && UNLIKELY((code == POMURICA_EVENT_PREFETCH_ABORT && a == POMURICA_ABORT_DEBUG) ||
-                        (code == POMURICA_EVENT_NOTE && a == POMURICA_PLACE_HDCR)))
-        return 0;
-    return code;
-}
-
 /* Whether a Step is what comes of its event on the block of the outcome, which moves on. */
 ALWAYS_INLINE bool is_right(bool old, const uint8_t *step, uint8_t *outcome)
 {
-    step_whole(outcome + POMURICA_ANSWER_SIZE, code_of(old, step), get(step, CODE + 1), get(step, CODE + 2), outcome);
+    step_in(old, outcome + POMURICA_ANSWER_SIZE, get(step, CODE), get(step, CODE + 1), get(step, CODE + 2), outcome);
     return is_same(step + 4 * STEP_ANSWER, outcome, OUTCOME(old));
 }
 

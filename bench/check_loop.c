@@ -85,7 +85,7 @@ static bool find_event(struct chance *chance, uint32_t code, bool wanted, struct
         if (code == CODE_NOTE && one_in(chance, 2))
             move_on(chance, step);
         keep_calls(&step->event);
-        if (is_done(step, after, record + STEP_ANSWER) == wanted)
+        if (is_done(chance->old, step, after, record + STEP_ANSWER) == wanted)
             return true;
     }
     return false;

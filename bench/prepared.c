@@ -2,7 +2,7 @@
 
 #include "prepared.h"
 
-#include "../second/second.h"
+#include "../second/records.h"
 #include "../second/words.h"
 
 #include <stdio.h>
@@ -29,11 +29,11 @@ void choose_event(struct chance *chance, uint32_t code, bool wanted, struct step
         step->event.b = 1;
 }
 
-bool is_done(const struct step_case *step, uint8_t *after, uint8_t *answer)
+bool is_done(bool old, const struct step_case *step, uint8_t *after, uint8_t *answer)
 {
     memcpy(after, step->block, BLOCK_SIZE);
-    return second_step(after, BLOCK_SIZE, step->event.code, step->event.a, step->event.b,
-                       answer, ANSWER_SIZE) == DONE;
+    return second_step_in(old ? OLD_LAYOUT : NEW_LAYOUT, after, step->event.code, step->event.a, step->event.b,
+                          answer) == DONE;
 }
 
 bool write_file(const char *name, const void *bytes, size_t length)

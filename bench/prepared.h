@@ -31,8 +31,8 @@ bool wants_done(struct chance *chance);
 /* An event of the code on the block, which may or may not end as wanted. */
 void choose_event(struct chance *chance, uint32_t code, bool wanted, struct step_case *step);
 
-/* Whether the second implementation does the step; after and answer take what it gives. */
-bool is_done(const struct step_case *step, uint8_t *after, uint8_t *answer);
+/* Whether the second implementation does the step, by the rules of a layout; after and answer take what it gives. */
+bool is_done(bool old, const struct step_case *step, uint8_t *after, uint8_t *answer);
 
 /* Whole files; each tells what goes wrong. */
 bool write_file(const char *name, const void *bytes, size_t length);

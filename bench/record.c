@@ -50,7 +50,7 @@ ALWAYS_INLINE void record_step(uint8_t *step, const struct pomurica_event *event
     put(step, POMURICA_STEP_A, event->a);
     put(step, POMURICA_STEP_B, event->b);
     carry_block(block, step - POMURICA_BLOCK_SIZE);
-    step_whole(block, event->code, event->a, event->b, step + 4 * POMURICA_STEP_NUMBER);
+    step_in(false, block, event->code, event->a, event->b, step + 4 * POMURICA_STEP_NUMBER);
 }
 
 uint32_t fast_record(const uint8_t *block, size_t block_len, const struct pomurica_event *events, size_t events_len,

@@ -12,6 +12,7 @@
 
 #include "pomurica.h"
 
+#include <stdbool.h>
 #include <string.h>
 
 #define ALWAYS_INLINE static inline __attribute__((always_inline))
@@ -201,11 +202,11 @@ ALWAYS_INLINE uint32_t answer_with(uint8_t *answer, uint32_t number, uint32_t va
     return number;
 }
 
-/* The value of an interrupt check. */
-ALWAYS_INLINE uint32_t take_first(const struct state *state, uint32_t lines)
+/* The value of an interrupt check: `more` has VF and VI as they are signalled beside those of HCR. */
+ALWAYS_INLINE uint32_t take_first(const struct state *state, uint32_t lines, uint32_t more)
 {
     const uint32_t cpsr = state->cpsr, scr = state->scr;
-    const uint32_t hcr = get(state->block, POMURICA_PLACE_HCR);
+    const uint32_t hcr = get(state->block, POMURICA_PLACE_HCR), sources = hcr | more;
     const uint32_t hyp = state->mode == POMURICA_MODE_HYP;
     const uint32_t secure = !state->ns || state->mode == POMURICA_MODE_MONITOR;
     const uint32_t pc = get(state->block, POMURICA_PLACE_PC);
@@ -240,9 +241,9 @@ ALWAYS_INLINE uint32_t take_first(const struct state *state, uint32_t lines)
         put(state->block, POMURICA_PLACE_HCR, hcr & ~(uint32_t)VA);
         return enter_abort(state, 4, 0x10, pc + 8);
     }
-    if ((hcr & FMO) && ((hcr & VF) | (lines & POMURICA_LINE_VIRTUAL_FIQ)) && !(cpsr & F))
+    if ((sources & (FMO | VF)) == (FMO | VF) && !(cpsr & F))
         return enter_fiq(state, 5, pc + 4);
-    if ((hcr & IMO) && ((hcr & VI) | (lines & POMURICA_LINE_VIRTUAL_IRQ)) && !(cpsr & I))
+    if ((sources & (IMO | VI)) == (IMO | VI) && !(cpsr & I))
         return enter_irq(state, 6, pc + 4);
     return 0;
 }
@@ -456,9 +457,9 @@ EVENT(interrupt_check)
 {
     const struct state state = STATE;
 
-    if (a > 31 || b)
+    if (a > POMURICA_ALL_LINES || b)
         REFUSE(POMURICA_BAD_EVENT);
-    DONE_WITH(take_first(&state, a));
+    DONE_WITH(take_first(&state, a, 0));
 }
 
 EVENT(banked_read)
@@ -574,11 +575,44 @@ EVENT(unknown)
     REFUSE(POMURICA_BAD_EVENT);
 }
 
+/* The old layout has no debug abort. */
+EVENT(old_prefetch_abort)
+{
+    const struct state state = STATE;
+
+    return abort_with(&state, a, b, 0x0C, 4, answer);
+}
+
+/* It has the virtual lines too: they stand in A as VF and VI do in HCR, three bits lower. */
+EVENT(old_interrupt_check)
+{
+    const struct state state = STATE;
+
+    if (a > POMURICA_OLD_ALL_LINES || b)
+        REFUSE(POMURICA_BAD_EVENT);
+    DONE_WITH(take_first(&state, a, a << 3 & (VF | VI)));
+}
+
+/* And no HDCR. */
+EVENT(old_note)
+{
+    if (a == POMURICA_PLACE_HDCR)
+        REFUSE(POMURICA_BAD_EVENT);
+    return note(block, cpsr, scr, a, b, answer);
+}
+
 /* By code. */
 #define CODES 14
-static uint32_t (*const EVENTS[CODES])(uint8_t *, uint32_t, uint32_t, uint32_t, uint32_t, uint8_t *) = {
+typedef uint32_t event_function(uint8_t *, uint32_t, uint32_t, uint32_t, uint32_t, uint8_t *);
+
+static event_function *const EVENTS[CODES] = {
     unknown, undefined, svc, smc, hvc, prefetch_abort, data_abort, hyp_trap, monitor_trap,
     interrupt_check, banked_read, banked_write, note, exception_return,
+};
+
+static event_function *const OLD_EVENTS[CODES] = {
+    unknown, undefined, svc, smc, hvc, old_prefetch_abort, data_abort, hyp_trap, monitor_trap,
+    old_interrupt_check, banked_read, banked_write, old_note, exception_return,
 };
 
 /* Apart, so that a good block pays nothing for it. */
@@ -587,9 +621,8 @@ static __attribute__((noinline, cold)) uint32_t refuse_block(uint32_t cpsr, uint
     REFUSE(fault_of(cpsr));
 }
 
-/* The step on buffers that have their sizes. */
-ALWAYS_INLINE uint32_t step_whole(uint8_t *block, uint32_t code, uint32_t a, uint32_t b,
-                                  uint8_t *answer)
+/* The step on buffers that have their sizes, by the rules of a layout. */
+ALWAYS_INLINE uint32_t step_in(bool old, uint8_t *block, uint32_t code, uint32_t a, uint32_t b, uint8_t *answer)
 {
     const uint32_t cpsr = get(block, POMURICA_PLACE_CPSR);
     const uint32_t scr = get(block, POMURICA_PLACE_SCR);
@@ -598,7 +631,7 @@ ALWAYS_INLINE uint32_t step_whole(uint8_t *block, uint32_t code, uint32_t a, uin
         return refuse_block(cpsr, answer);
     if (UNLIKELY(code >= CODES))
         REFUSE(POMURICA_BAD_EVENT);
-    return EVENTS[code](block, cpsr, scr, a, b, answer);
+    return (old ? OLD_EVENTS : EVENTS)[code](block, cpsr, scr, a, b, answer);
 }
 
 uint32_t fast_step(uint8_t *block, size_t block_len, uint32_t code, uint32_t a, uint32_t b,
@@ -606,5 +639,5 @@ uint32_t fast_step(uint8_t *block, size_t block_len, uint32_t code, uint32_t a, 
 {
     if (UNLIKELY(block_len != POMURICA_BLOCK_SIZE || answer_len != POMURICA_ANSWER_SIZE))
         return POMURICA_BAD_SIZE;
-    return step_whole(block, code, a, b, answer);
+    return step_in(false, block, code, a, b, answer);
 }

@@ -47,7 +47,7 @@ static void prepare_case(struct chance *chance, uint32_t code, struct step_case 
         if (wanted)
             enable_calls(made->block);
         choose_event(chance, code, wanted, made);
-    } while (is_done(made, after, answer) != wanted);
+    } while (is_done(false, made, after, answer) != wanted);
 }
 
 static void prepare(uint32_t code)

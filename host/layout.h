@@ -16,6 +16,7 @@ struct layout {
     uint32_t step_size, step_kind;
     uint32_t block_size, places;
     uint32_t most_of_prefetch; /* that A of a Prefetch Abort may be */
+    uint32_t lines;            /* of an interrupt check */
 };
 
 static inline const struct layout *new_layout(void)
@@ -26,12 +27,13 @@ static inline const struct layout *new_layout(void)
         .step_size = POMURICA_STEP_SIZE, .step_kind = POMURICA_KIND_STEP,
         .block_size = POMURICA_BLOCK_SIZE, .places = POMURICA_PLACES,
         .most_of_prefetch = POMURICA_ABORT_DEBUG,
+        .lines = POMURICA_ALL_LINES,
     };
 
     return &NEW;
 }
 
-/* It has no place for HDCR, which counts as 0, and knows no debug abort. */
+/* It has no place for HDCR, which counts as 0, and knows no debug abort; it alone has lines for virtual interrupts. */
 static inline const struct layout *old_layout(void)
 {
     static const struct layout OLD = {
@@ -40,6 +42,7 @@ static inline const struct layout *old_layout(void)
         .step_size = POMURICA_OLD_STEP_SIZE, .step_kind = POMURICA_OLD_KIND_STEP,
         .block_size = POMURICA_OLD_BLOCK_SIZE, .places = POMURICA_OLD_PLACES,
         .most_of_prefetch = POMURICA_ABORT_EXTERNAL | POMURICA_ABORT_STAGE_2,
+        .lines = POMURICA_OLD_ALL_LINES,
     };
 
     return &OLD;
@@ -74,6 +77,14 @@ static inline bool is_of_new_alone(uint32_t code, uint32_t a)
 {
     return (code == POMURICA_EVENT_PREFETCH_ABORT && a == POMURICA_ABORT_DEBUG) ||
            (code == POMURICA_EVENT_NOTE && a == POMURICA_PLACE_HDCR);
+}
+
+/* The virtual lines of an event, which the old layout alone knows; 0 where it has none. */
+static inline uint32_t virtual_lines(uint32_t code, uint32_t a)
+{
+    const uint32_t lines = POMURICA_LINE_VIRTUAL_FIQ | POMURICA_LINE_VIRTUAL_IRQ;
+
+    return code == POMURICA_EVENT_INTERRUPT_CHECK && a <= POMURICA_OLD_ALL_LINES ? a & lines : 0;
 }
 
 #endif

@@ -49,7 +49,6 @@ static const char *const CELLS_R_1[8][4] = {
 /* The most that A of an event may be, where it has one (document 01, "Events") and the layout does not decide it. */
 enum {
     MOST_OF_DATA_ABORT = POMURICA_ABORT_EXTERNAL | POMURICA_ABORT_STAGE_2,
-    MOST_LINES = 31,
     MOST_CELL = 63 /* 32 * R + SYSm */
 };
 
@@ -205,7 +204,7 @@ static uint32_t most_a(const struct layout *layout, uint32_t code)
     switch (code) {
     case POMURICA_EVENT_PREFETCH_ABORT: return layout->most_of_prefetch;
     case POMURICA_EVENT_DATA_ABORT: return MOST_OF_DATA_ABORT;
-    case POMURICA_EVENT_INTERRUPT_CHECK: return MOST_LINES;
+    case POMURICA_EVENT_INTERRUPT_CHECK: return layout->lines;
     case POMURICA_EVENT_BANKED_READ:
     case POMURICA_EVENT_BANKED_WRITE: return MOST_CELL;
     case POMURICA_EVENT_NOTE: return layout->places - 1;
@@ -440,11 +439,20 @@ static bool is_of_new_in_old(const uint8_t *step)
            is_of_new_alone(pomurica_get_word(step, POMURICA_STEP_CODE), pomurica_get_word(step, POMURICA_STEP_A));
 }
 
+/* Whether it is a check with a virtual line, which the old layout knows, and the Step's own does not. */
+static bool is_of_old_in_new(const uint8_t *step)
+{
+    return !layout_of(step)->old &&
+           virtual_lines(pomurica_get_word(step, POMURICA_STEP_CODE), pomurica_get_word(step, POMURICA_STEP_A)) != 0;
+}
+
 /* Why an event is refused, where more is to be said than the number; else NULL. */
 static const char *why_refused(const uint8_t *step, uint32_t number)
 {
     if (number == POMURICA_BAD_EVENT && is_of_new_in_old(step))
         return "not known in the old layout";
+    if (number == POMURICA_BAD_EVENT && is_of_old_in_new(step))
+        return "a virtual line: in the new layout HCR.VF and VI signal a guest";
     if (number == POMURICA_DISABLED)
         return why_disabled(step);
     if (number == POMURICA_BAD_STATE && is_saved_word_bad(step))

@@ -32,10 +32,12 @@ const char *warning_of(const uint8_t *report, uint32_t done);
 
 /*
  * The event of a Step: "interrupt check, lines IRQ"; with what is wrong with it:
- * "interrupt check, A 33, above 31".  What A of a return may be goes by the mode
+ * "banked read, A 64, above 63".  What A of a return may be goes by the mode
  * before the Step: "exception return, A 4, which must be 0 from Hyp"; what A of a
- * Prefetch Abort and of a note may be, by the layout: "debug Prefetch Abort" is
- * in the old one "Prefetch Abort, A 4, above 3".
+ * Prefetch Abort, of an interrupt check and of a note may be, by the layout:
+ * "debug Prefetch Abort" is in the old one "Prefetch Abort, A 4, above 3", and
+ * "interrupt check, lines virtual IRQ" in the new one "interrupt check, A 16,
+ * above 7".
  */
 void tell_event(FILE *out, const uint8_t *step);
 
@@ -50,7 +52,7 @@ void tell_state(FILE *out, const uint8_t *block);
  * Of a call that is disabled with the reason, by the block before the Step:
  * "refused with 16 DISABLED (HVC is disabled: SCR.HCE is 0)"; and so of a return
  * that its saved word refuses, of an access that is denied, and of an event that
- * only the new layout knows.  Of a return that is done with what the rules make
+ * only the other layout knows.  Of a return that is done with what the rules make
  * of it, by that block too: "returns to Non-secure User at 0x00008004", "illegal
  * return (Hyp is above Exception level 1): stays in Non-secure Supervisor, IL
  * becomes 1, goes on at 0x00008004".

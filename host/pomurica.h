@@ -11,11 +11,13 @@
  * A trace has one of two layouts, which its Start tells by its kind.  The new
  * one has blocks of 180 bytes.  The old one, of units without self-hosted debug,
  * has blocks of 176: they lack the last word, HDCR, which counts as 0, and a
- * debug abort and a note on HDCR are no events there.  What has a plain name
- * here is of the new layout; POMURICA_OLD_ names the same of the old one.
- * pomurica_check, a session, pomurica_explain and pomurica_count take traces of
- * both.  pomurica_step and pomurica_batch take blocks of 180 bytes alone, and
- * pomurica_record takes such a block and writes the new layout.
+ * debug abort and a note on HDCR are no events there.  Only there has an
+ * interrupt check lines for virtual interrupts; in the new layout HCR.VF and
+ * HCR.VI alone signal a guest.  What has a plain name here is of the new layout;
+ * POMURICA_OLD_ names the same of the old one.  pomurica_check, a session,
+ * pomurica_explain and pomurica_count take traces of both.  pomurica_step and
+ * pomurica_batch take blocks of 180 bytes alone, and pomurica_record takes such a
+ * block and writes the new layout: all three go by the rules of the new one.
  *
  * The ten functions are proved: for every input they return, give the one
  * answer that the rules give, and write nothing but what is said here.  They
@@ -155,7 +157,7 @@ enum pomurica_code {
     POMURICA_EVENT_DATA_ABORT = 6,      /* A: enum pomurica_abort, added up */
     POMURICA_EVENT_HYP_TRAP = 7,
     POMURICA_EVENT_MONITOR_TRAP = 8,
-    POMURICA_EVENT_INTERRUPT_CHECK = 9, /* A: enum pomurica_line, added up */
+    POMURICA_EVENT_INTERRUPT_CHECK = 9, /* A: enum pomurica_line, added up; no virtual one but in an old trace */
     POMURICA_EVENT_BANKED_READ = 10,    /* A: 32 * R + SYSm of the MRS instruction, 0 to 63 */
     POMURICA_EVENT_BANKED_WRITE = 11,   /* A: 32 * R + SYSm of the MSR instruction; B: the new word */
     POMURICA_EVENT_NOTE = 12,           /* ordinary code changed a word.  A: its place; B: the new word */
@@ -187,13 +189,24 @@ enum pomurica_abort {
     POMURICA_ABORT_DEBUG = 4 /* of a Prefetch Abort alone, and with neither of the others: a breakpoint instruction */
 };
 
-/* A of an interrupt check: the lines that are set. */
+/*
+ * A of an interrupt check: the lines that are set.  The two virtual ones stand in
+ * traces of the old layout alone, which are judged with them.  In the new layout,
+ * and by pomurica_step, pomurica_batch and pomurica_record, a check with either
+ * is refused with POMURICA_BAD_EVENT, whatever else A has: there a virtual FIQ is
+ * brought by HCR.VF, and a virtual IRQ by HCR.VI.  A note on HCR sets the bit, and
+ * a check takes the interrupt, also one without a line, unless another exception
+ * goes before it.  (As ever that is in Non-secure User or EL1, with HCR.TGE 0, its
+ * HCR.FMO or HCR.IMO 1, and its mask bit 0.)
+ */
 enum pomurica_line {
     POMURICA_LINE_SERROR = 1,
     POMURICA_LINE_FIQ = 2,
     POMURICA_LINE_IRQ = 4,
-    POMURICA_LINE_VIRTUAL_FIQ = 8,
-    POMURICA_LINE_VIRTUAL_IRQ = 16
+    POMURICA_ALL_LINES = 7,         /* the most that A may be */
+    POMURICA_LINE_VIRTUAL_FIQ = 8,  /* in the old layout, where it does what HCR.VF does */
+    POMURICA_LINE_VIRTUAL_IRQ = 16, /* in the old layout, where it does what HCR.VI does */
+    POMURICA_OLD_ALL_LINES = 31
 };
 
 /* Modes: CPSR bits 4-0. */
@@ -291,9 +304,9 @@ enum pomurica_place {
 #define POMURICA_HCR_FMO (UINT32_C(1) << 3)
 #define POMURICA_HCR_IMO (UINT32_C(1) << 4)
 #define POMURICA_HCR_AMO (UINT32_C(1) << 5)
-#define POMURICA_HCR_VF (UINT32_C(1) << 6)
-#define POMURICA_HCR_VI (UINT32_C(1) << 7)
-#define POMURICA_HCR_VA (UINT32_C(1) << 8)
+#define POMURICA_HCR_VF (UINT32_C(1) << 6) /* signals a virtual FIQ, and stays when it is taken */
+#define POMURICA_HCR_VI (UINT32_C(1) << 7) /* signals a virtual IRQ, and stays when it is taken */
+#define POMURICA_HCR_VA (UINT32_C(1) << 8) /* signals a virtual SError, and is cleared when it is taken */
 #define POMURICA_HCR_TSC (UINT32_C(1) << 19)
 #define POMURICA_HCR_TGE (UINT32_C(1) << 27)
 
@@ -340,6 +353,9 @@ enum pomurica_told_word {
  * POMURICA_BAD_SIZE, if block_len is not 180 or answer_len not 8, writes neither
  * buffer: a block of 176 bytes, out of a trace of the old layout, needs a word of
  * 0 behind it.
+ * POMURICA_BAD_EVENT is also what a check with a virtual line gets, which the old
+ * layout knows.  To do one of such a trace, leave the line off, set HCR.VF or
+ * HCR.VI for it in the block, and put the bit back as it was after the step.
  * POMURICA_DISABLED: the core finds such a call Undefined, so that a recorder
  * has to send POMURICA_EVENT_UNDEFINED in its place.
  *

@@ -66,17 +66,32 @@ struct due {
     uint8_t block[POMURICA_BLOCK_SIZE], answer[POMURICA_ANSWER_SIZE];
 };
 
+/* The bits of HCR that signal what virtual lines do. */
+static inline uint32_t signalled_by(uint32_t lines)
+{
+    return (lines & POMURICA_LINE_VIRTUAL_FIQ ? POMURICA_HCR_VF : 0) |
+           (lines & POMURICA_LINE_VIRTUAL_IRQ ? POMURICA_HCR_VI : 0);
+}
+
+/*
+ * A step goes by the rules of the new layout.  So what an old one does not know is here an event of no code, and its
+ * virtual lines are bits of HCR for the one step, which moves neither of them.
+ */
 static inline void find_due(const uint8_t *step, struct due *due)
 {
     const struct layout *const layout = layout_of(step);
     const uint32_t a = pomurica_get_word(step, POMURICA_STEP_A), b = pomurica_get_word(step, POMURICA_STEP_B);
+    const uint32_t hcr = pomurica_get_word(block_before(step), POMURICA_PLACE_HCR);
     uint32_t code = pomurica_get_word(step, POMURICA_STEP_CODE);
+    const uint32_t lines = layout->old ? virtual_lines(code, a) : 0, set = signalled_by(lines) & ~hcr;
 
     if (layout->old && is_of_new_alone(code, a))
-        code = 0; /* which is no event's */
+        code = 0;
     memset(due->block, 0, sizeof due->block);
     memcpy(due->block, block_before(step), layout->block_size);
-    pomurica_step(due->block, sizeof due->block, code, a, b, due->answer, sizeof due->answer);
+    pomurica_put_word(due->block, POMURICA_PLACE_HCR, hcr | set);
+    pomurica_step(due->block, sizeof due->block, code, a & ~lines, b, due->answer, sizeof due->answer);
+    pomurica_put_word(due->block, POMURICA_PLACE_HCR, pomurica_get_word(due->block, POMURICA_PLACE_HCR) & ~set);
 }
 
 #endif

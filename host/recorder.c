@@ -53,6 +53,8 @@ static const char HELP[] =
     "An interrupt check names the lines that are set, an abort what it is, in any order\n"
     "(`debug`, a breakpoint instruction, alone), a return what it takes off LR, if\n"
     "anything: from Hyp it takes ELR_hyp as it is.\n"
+    "The virtual lines are those of older recorders, and refused: a note on HCR sets VF\n"
+    "(0x40) or VI (0x80), which signal a guest, and a check without them takes it.\n"
     "Behind `event` stand code, A and B as numbers, for events that no other word makes,\n"
     "bad ones among them.\n"
     "\n";

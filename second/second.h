@@ -1,11 +1,11 @@
 /*
  * A second implementation of document 01, and of No. 1, No. 2, No. 5, No. 6,
- * No. 7, No. 8, No. 9, No. 10 and No. 11 of document 02, written from the papers
- * alone, to be held against the proved one.  (No. 3 changes no answer, and the
- * table of No. 4 is printed by decisions.py.)  Each function returns the number;
- * none keeps anything between calls but what is in a session.  (NULL, 0) is an
- * empty buffer, an empty list and an empty run.  No. 11: a block has 180 bytes,
- * and a trace may be of the old layout or of the new.
+ * No. 7, No. 8, No. 9, No. 10, No. 11 and No. 13 of document 02, written from the
+ * papers alone, to be held against the proved one.  (No. 3 changes no answer, and
+ * the table of No. 4 is printed by decisions.py.)  Each function returns the
+ * number; none keeps anything between calls but what is in a session.  (NULL, 0)
+ * is an empty buffer, an empty list and an empty run.  No. 11: a block has 180
+ * bytes, and a trace may be of the old layout or of the new.
  */
 #ifndef SECOND_H
 #define SECOND_H

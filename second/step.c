@@ -1,7 +1,8 @@
 /*
- * The step, in the order of document 01, with No. 5, No. 8, No. 9, No. 10 and
- * No. 11 of document 02.  The block's bytes are read into words once, every rule
- * speaks of words, and they go back as bytes only when the step is DONE.
+ * The step, in the order of document 01, with No. 5, No. 8, No. 9, No. 10,
+ * No. 11 and No. 13 of document 02.  The block's bytes are read into words once,
+ * every rule speaks of words, and they go back as bytes only when the step is
+ * DONE.
  */
 #include "records.h"
 #include "second.h"
@@ -912,12 +913,21 @@ static uint32_t perform_return(struct block *block, uint32_t a)
 
 /* ---------------------------------------------------------- The layouts */
 
-/* No. 11: "Kinds 1 and 2 are still read, with HDCR 0, and there debug and notes on place 44 are BAD_EVENT". */
+/* No. 13: "lines 8 and 16 of event 9", one of them or both, whatever other line is set. */
+static bool has_virtual_line(const struct event *event)
+{
+    return event->code == CODE_INTERRUPT_CHECK && (event->a & (LINE_VFIQ | LINE_VIRQ)) != 0;
+}
+
+/*
+ * No. 11: "Kinds 1 and 2 are still read, with HDCR 0, and there debug and notes on place 44 are BAD_EVENT".  No. 13:
+ * "For Start kind 4, and for every direct step, lines 8 and 16 of event 9 become BAD_EVENT"; kind 1 keeps "both lines".
+ */
 static bool is_unknown_in(enum layout layout, const struct event *event)
 {
     if (layout == OLD_LAYOUT)
         return is_debug(event) || (event->code == CODE_NOTE && event->a == HDCR);
-    return false;
+    return has_virtual_line(event);
 }
 
 /* No. 11: the event by the rules of a layout: one that it does not know has no code.  No other rule asks for it. */
@@ -975,7 +985,7 @@ uint32_t second_step_in(enum layout layout, uint8_t *block, uint32_t code, uint3
     return number;
 }
 
-/* Answer numbers: the block, the event and an 8-byte answer buffer; No. 11: "The C console passes 180 bytes". */
+/* Answer numbers: the block, the event and an 8-byte answer buffer; No. 11: "180 bytes"; No. 13: as "Start kind 4". */
 uint32_t second_step(uint8_t *block, size_t block_len,
                      uint32_t code, uint32_t a, uint32_t b,
                      uint8_t *answer, size_t answer_len)

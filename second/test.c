@@ -1,8 +1,8 @@
 /*
  * The worked cases of document 01, "Numbers to hold against it", a to l, and
- * cases of our own for No. 1, No. 2, No. 5, No. 6, No. 7, No. 8, No. 9, No. 10
- * and No. 11 of document 02: each is run and printed.  Exit status 1 if one
- * differs.
+ * cases of our own for No. 1, No. 2, No. 5, No. 6, No. 7, No. 8, No. 9, No. 10,
+ * No. 11 and No. 13 of document 02: each is run and printed.  Exit status 1 if
+ * one differs.
  *
  *     cc -std=c11 -Wall -Wextra -Werror -O2 -I../host step.c batch.c check.c count.c session.c record.c test.c -o test &&
  *         ./test
@@ -486,17 +486,17 @@ static const struct worked_case TGE_CASES[] = {
       .start = { [SCR] = SCR_NS | SCR_IRQ, [HCR] = HCR_TGE, [CPSR] = 0x96, [PC] = 0x8000 },
       .code = CODE_INTERRUPT_CHECK, .a = LINE_IRQ, .value = 0, .unchanged = true },
     { .name = "virtual IRQ", /* "Virtual exceptions stay off under TGE" */
-      .start = { [SCR] = SCR_NS, [HCR] = HCR_TGE, [CPSR] = 0x10, [PC] = 0x8000 },
-      .code = CODE_INTERRUPT_CHECK, .a = LINE_VIRQ, .value = 0, .unchanged = true },
+      .start = { [SCR] = SCR_NS, [HCR] = HCR_TGE | HCR_VI, [CPSR] = 0x10, [PC] = 0x8000 },
+      .code = CODE_INTERRUPT_CHECK, .value = 0, .unchanged = true },
     { .name = "virtual, M 0",
       .start = { [SCR] = SCR_NS, [HCR] = HCR_TGE | SOURCES, [CPSR] = 0x10, [PC] = 0x8000 },
-      .code = CODE_INTERRUPT_CHECK, .a = LINE_VFIQ | LINE_VIRQ, .value = 0, .unchanged = true },
+      .code = CODE_INTERRUPT_CHECK, .value = 0, .unchanged = true },
     { .name = "virtual, M 1",
       .start = { [SCR] = SCR_NS, [HCR] = HCR_TGE | SOURCES | OVERRIDES, [CPSR] = 0x10, [PC] = 0x8000 },
-      .code = CODE_INTERRUPT_CHECK, .a = LINE_VFIQ | LINE_VIRQ, .value = 0, .unchanged = true },
+      .code = CODE_INTERRUPT_CHECK, .value = 0, .unchanged = true },
     { .name = "TGE 0, M 0", /* a virtual one goes by the stored bit */
       .start = { [SCR] = SCR_NS, [HCR] = SOURCES, [CPSR] = 0x10, [PC] = 0x8000 },
-      .code = CODE_INTERRUPT_CHECK, .a = LINE_VFIQ | LINE_VIRQ, .value = 0, .unchanged = true },
+      .code = CODE_INTERRUPT_CHECK, .value = 0, .unchanged = true },
     { .name = "IRQ, TGE 0", /* entry 71: as document 01 has it */
       .start = { [SCR] = SCR_NS, [CPSR] = 0x90, [PC] = 0x8000 },
       .code = CODE_INTERRUPT_CHECK, .a = LINE_IRQ, .value = 0, .unchanged = true },
@@ -2200,6 +2200,209 @@ static void run_layouts(void)
     run_old_debugging();
 }
 
+/* No. 13: both virtual lines. */
+#define VIRTUAL_LINES (LINE_VFIQ | LINE_VIRQ)
+
+/* No. 13: direct steps: a line retired, and "signals guests through HCR.VI and VF alone". */
+static const struct worked_case LINE_CASES[] = {
+    { .name = "line 8",
+      .start = { [SCR] = SCR_NS, [HCR] = OVERRIDES, [CPSR] = 0x13, [PC] = 0x8000 },
+      .code = CODE_INTERRUPT_CHECK, .a = LINE_VFIQ, .number = BAD_EVENT, .unchanged = true },
+    { .name = "line 16",
+      .start = { [SCR] = SCR_NS, [HCR] = OVERRIDES, [CPSR] = 0x13, [PC] = 0x8000 },
+      .code = CODE_INTERRUPT_CHECK, .a = LINE_VIRQ, .number = BAD_EVENT, .unchanged = true },
+    { .name = "lines 8, 16",
+      .start = { [SCR] = SCR_NS, [HCR] = OVERRIDES, [CPSR] = 0x13, [PC] = 0x8000 },
+      .code = CODE_INTERRUPT_CHECK, .a = LINE_VFIQ | LINE_VIRQ, .number = BAD_EVENT, .unchanged = true },
+    { .name = "lines 4, 16", /* also beside a line that would be taken */
+      .start = { [SCR] = SCR_NS, [CPSR] = 0x13, [PC] = 0x8000 },
+      .code = CODE_INTERRUPT_CHECK, .a = LINE_IRQ | LINE_VIRQ, .number = BAD_EVENT, .unchanged = true },
+    { .name = "Secure, 8", /* also where none is pending */
+      .start = { [CPSR] = 0x13, [PC] = 0x8000 },
+      .code = CODE_INTERRUPT_CHECK, .a = LINE_VFIQ, .number = BAD_EVENT, .unchanged = true },
+    { .name = "VI, line 16", /* also where VI would do */
+      .start = { [SCR] = SCR_NS, [HCR] = HCR_IMO | HCR_VI, [CPSR] = 0x13, [PC] = 0x8000 },
+      .code = CODE_INTERRUPT_CHECK, .a = LINE_VIRQ, .number = BAD_EVENT, .unchanged = true },
+    { .name = "no mode, 8", /* the block's own numbers are the lower */
+      .start = { [SCR] = SCR_NS, [CPSR] = 0x14 },
+      .code = CODE_INTERRUPT_CHECK, .a = LINE_VFIQ, .number = BAD_MODE, .unchanged = true },
+    { .name = "not good, 16",
+      .start = { [CPSR] = 0x1A },
+      .code = CODE_INTERRUPT_CHECK, .a = LINE_VIRQ, .number = BAD_STATE, .unchanged = true },
+    { .name = "VF",
+      .start = { [SCR] = SCR_NS, [HCR] = HCR_FMO | HCR_VF, [CPSR] = 0x13, [PC] = 0x8000, [VBAR_NS] = 0x10000000 },
+      .code = CODE_INTERRUPT_CHECK, .value = 0x5111C,
+      .after = { { CPSR, 0x1D1 }, { LR_fiq, 0x8004 }, { PC, 0x1000001C }, { HCR, HCR_FMO | HCR_VF } }, .named = 4 },
+    { .name = "VI",
+      .start = { [SCR] = SCR_NS, [HCR] = HCR_IMO | HCR_VI, [CPSR] = 0x13, [PC] = 0x8000, [VBAR_NS] = 0x10000000 },
+      .code = CODE_INTERRUPT_CHECK, .value = 0x61218,
+      .after = { { CPSR, 0x192 }, { LR_irq, 0x8004 }, { PC, 0x10000018 }, { HCR, HCR_IMO | HCR_VI } }, .named = 4 },
+    { .name = "read, A 16", /* of another event it is no line */
+      .start = { [SCR] = SCR_NS, [CPSR] = 0x13, [LR_irq] = 0x600DCAFE },
+      .code = CODE_BANKED_READ, .a = 16, .value = 0x600DCAFE, .unchanged = true },
+};
+
+/* No. 13: how many of our own. */
+#define LINE_CASE_COUNT (sizeof LINE_CASES / sizeof LINE_CASES[0])
+
+/* The interrupt check: the sources of lines, "VF or line 8; VI or line 16". */
+static uint32_t sources_of(uint32_t lines)
+{
+    return ((lines & LINE_VFIQ) != 0 ? HCR_VF : 0) | ((lines & LINE_VIRQ) != 0 ? HCR_VI : 0);
+}
+
+/* The trace: a check as both lines have it: a direct one with their sources set, and then as they were. */
+static void record_lines(uint8_t *trace, enum layout layout, const uint8_t *before, uint32_t lines)
+{
+    const struct pomurica_event check = { CODE_INTERRUPT_CHECK, lines & ~(uint32_t)VIRTUAL_LINES, 0 };
+    const uint32_t more = sources_of(lines) & ~get_word(before + 4 * HCR);
+    uint8_t after[BLOCK_SIZE];
+    struct pomurica_answer answer;
+
+    memcpy(after, before, sizeof after);
+    put_word(after + 4 * HCR, get_word(after + 4 * HCR) | more);
+    answer = answer_of(after, check);
+    put_word(after + 4 * HCR, get_word(after + 4 * HCR) & ~more);
+    record_one(trace, layout, before, (struct pomurica_event){ CODE_INTERRUPT_CHECK, lines, 0 }, answer, after);
+}
+
+/* The trace: the same as refused. */
+static void record_refused_lines(uint8_t *trace, enum layout layout, const uint8_t *before, uint32_t lines)
+{
+    record_one(trace, layout, before, (struct pomurica_event){ CODE_INTERRUPT_CHECK, lines, 0 },
+               (struct pomurica_answer){ BAD_EVENT, 0 }, before);
+}
+
+/* The trace: whether one of one Step is judged so. */
+static bool is_judged(const uint8_t *trace, enum layout layout, uint32_t number)
+{
+    uint8_t report[REPORT_SIZE];
+
+    return second_check(trace, length_of(layout, 1), report, sizeof report) == number;
+}
+
+/* No. 13: a check with these lines: in an old trace "with both lines"; in a new one, and direct, none is virtual. */
+static bool is_by_layout(const uint8_t *block, uint32_t lines)
+{
+    const bool retired = (lines & VIRTUAL_LINES) != 0;
+    uint8_t trace[ONE_LENGTH], direct[BLOCK_SIZE];
+    uint32_t number;
+    bool right;
+
+    record_lines(trace, OLD_LAYOUT, block, lines);
+    right = is_judged(trace, OLD_LAYOUT, DONE);
+    record_refused_lines(trace, OLD_LAYOUT, block, lines);
+    right = right && is_judged(trace, OLD_LAYOUT, WRONG_STEP);
+    record_lines(trace, NEW_LAYOUT, block, lines);
+    right = right && is_judged(trace, NEW_LAYOUT, retired ? WRONG_STEP : DONE);
+    record_refused_lines(trace, NEW_LAYOUT, block, lines);
+    right = right && is_judged(trace, NEW_LAYOUT, retired ? DONE : WRONG_STEP);
+    memcpy(direct, block, sizeof direct);
+    number = answer_of(direct, (struct pomurica_event){ CODE_INTERRUPT_CHECK, lines, 0 }).number;
+    return right && number == (retired ? BAD_EVENT : DONE);
+}
+
+/* No. 13: a block that is good, or not, by what steers a virtual exception: M, the sources, TGE, NS and the masks. */
+static void put_signalled(uint8_t *block, uint32_t mode, uint32_t choice)
+{
+    static const uint32_t BITS[] = { HCR_AMO, HCR_FMO, HCR_IMO, HCR_VA, HCR_VF, HCR_VI, HCR_TGE };
+    const uint32_t count = sizeof BITS / sizeof BITS[0];
+    uint32_t hcr = 0;
+
+    for (uint32_t bit = 0; bit < count; bit++)
+        hcr |= (choice >> bit & 1) != 0 ? BITS[bit] : 0;
+    put_first_block(block, mode | ((choice >> count & 1) != 0 ? CPSR_A | CPSR_I | CPSR_F : 0));
+    put_word(block + 4 * SCR, (choice >> (count + 1) & 1) != 0 ? SCR_NS : 0);
+    put_word(block + 4 * HCR, hcr);
+}
+
+/* No. 13: every line with every other, from a mode, on each block that is good. */
+static void run_signalled(const char *name, uint32_t mode)
+{
+    unsigned checks = 0, right = 0;
+
+    for (uint32_t choice = 0; choice < 1 << 9; choice++) {
+        uint8_t block[BLOCK_SIZE];
+
+        put_signalled(block, mode, choice);
+        if (answer_of(block, (struct pomurica_event){ 0, 0, 0 }).number != BAD_EVENT)
+            continue;
+        for (uint32_t lines = 0; lines < 32; lines++) {
+            checks++;
+            right += is_by_layout(block, lines);
+        }
+    }
+    printf("%-12s  %u checks, %u as due", name, checks, right);
+    tell(checks != 0 && right == checks);
+}
+
+/* No. 13, No. 2, No. 7, No. 1: a check with line 16 between two others, in a list, as recorded, and as counted. */
+static const struct pomurica_event SIGNALS[] = {
+    { CODE_INTERRUPT_CHECK, 0, 0 },
+    { CODE_INTERRUPT_CHECK, LINE_VIRQ, 0 },
+    { CODE_INTERRUPT_CHECK, LINE_IRQ, 0 },
+};
+static const struct pomurica_answer SIGNAL_ANSWERS[] = { { DONE, 0 }, { BAD_EVENT, 0 }, { DONE, 0x31218 } };
+static const char SIGNAL_COUNTS[] = "1 9 3\n2 0 2\n2 4 1\n3 18 1\n4 0 1\n4 3 1\n";
+
+enum {
+    SIGNAL_STEPS = sizeof SIGNALS / sizeof SIGNALS[0],
+    SIGNAL_LENGTH = START_LENGTH + SIGNAL_STEPS * STEP_LENGTH + END_LENGTH
+};
+
+static void run_signals(void)
+{
+    uint8_t block[BLOCK_SIZE], trace[SIGNAL_LENGTH], counts[COUNTS_SIZE] = { 0 };
+    struct pomurica_answer answers[SIGNAL_STEPS];
+    uint32_t number;
+
+    put_first_block(block, MODE_SUPERVISOR);
+    number = second_record(block, sizeof block, SIGNALS, SIGNAL_STEPS, trace, sizeof trace, 0);
+    run_trace("lines", trace, sizeof trace, DONE, SIGNAL_LENGTH, SIGNAL_STEPS);
+    run_count("lines", trace, sizeof trace, counts, DONE);
+    run_lines("lines", counts, SIGNAL_COUNTS);
+    number += second_batch(SIGNALS, SIGNAL_STEPS, answers, SIGNAL_STEPS, block, sizeof block);
+    printf("%-12s  answer %u to line 16", "list", (unsigned)answers[1].number);
+    tell(number == DONE && memcmp(answers, SIGNAL_ANSWERS, sizeof answers) == 0);
+}
+
+/* No. 13, No. 1: a virtual IRQ by line 16 in an old trace is counted as taken. */
+static void run_old_signal(void)
+{
+    const uint32_t length = length_of(OLD_LAYOUT, 1), end = place_of(NEW_LAYOUT, 1);
+    uint8_t block[BLOCK_SIZE], trace[ONE_LENGTH], counts[COUNTS_SIZE] = { 0 };
+
+    put_first_block(block, MODE_SUPERVISOR);
+    put_word(block + 4 * HCR, HCR_IMO);
+    record_lines(trace, OLD_LAYOUT, block, LINE_VIRQ);
+    run_one("old line 16", trace, OLD_LAYOUT, DONE);
+    run_known("old line 16", trace, length, length, DONE, length, 1);
+    run_count("old line 16", trace, length, counts, DONE);
+    run_lines("old line 16", counts, "1 9 1\n2 0 1\n3 18 1\n4 6 1\n");
+    record_lines(trace, NEW_LAYOUT, block, LINE_VIRQ);
+    run_one("new line 16", trace, NEW_LAYOUT, WRONG_STEP);
+    run_known("new line 16", trace, length_of(NEW_LAYOUT, 1), end - 1, WRONG_STEP, place_of(NEW_LAYOUT, 0), 0);
+}
+
+static void run_retired(void)
+{
+    static const struct {
+        const char *name;
+        uint32_t mode;
+    } MODES[] = {
+        { "User", MODE_USER }, { "FIQ", MODE_FIQ }, { "IRQ", MODE_IRQ }, { "Supervisor", MODE_SUPERVISOR },
+        { "Monitor", MODE_MONITOR }, { "Abort", MODE_ABORT }, { "Hyp", MODE_HYP }, { "Undefined", MODE_UNDEFINED },
+        { "System", MODE_SYSTEM },
+    };
+
+    for (size_t i = 0; i < LINE_CASE_COUNT; i++)
+        run_case(&LINE_CASES[i]);
+    for (size_t i = 0; i < sizeof MODES / sizeof MODES[0]; i++)
+        run_signalled(MODES[i].name, MODES[i].mode);
+    run_signals();
+    run_old_signal();
+}
+
 int main(void)
 {
     for (size_t i = 0; i < CASE_COUNT; i++)
@@ -2219,6 +2422,7 @@ int main(void)
     run_returns();
     run_denials();
     run_layouts();
+    run_retired();
     printf("%u passed, %u failed\n", run - differing, differing);
     return differing == 0 ? 0 : 1;
 }

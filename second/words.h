@@ -1,7 +1,7 @@
 /*
  * The words of document 01: its names for places, modes, events, numbers, bits
  * and the parts of a record, and how a word lies in bytes.  No. 1, No. 6, No. 7,
- * No. 8, No. 9, No. 10 and No. 11 are those of document 02.
+ * No. 8, No. 9, No. 10, No. 11 and No. 13 are those of document 02.
  */
 #ifndef WORDS_H
 #define WORDS_H
@@ -111,7 +111,7 @@ enum abort_bits {
     ABORT_DEBUG = 4
 };
 
-/* Events: A of an interrupt check. */
+/* Events: A of an interrupt check; No. 13: the virtual lines are of the old layout alone. */
 enum line_bits {
     LINE_SERROR = 1,
     LINE_FIQ = 2,

@@ -2,7 +2,8 @@
  * The step of the archive, called from C: document 01's worked cases a to k,
  * calls that the disable bits stop (No. 8), returns, legal, illegal and refused
  * (No. 9), and entries that a return takes back, debug aborts by HDCR (No. 11),
- * every length of both buffers from 0 to 210, and guard bytes around both.
+ * virtual interrupts by HCR, and no more by their lines (No. 13), every length of
+ * both buffers from 0 to 210, and guard bytes around both.
  */
 #include "group.h"
 #include "lent.h"
@@ -21,6 +22,7 @@ enum {
     HDCR = POMURICA_PLACE_HDCR,
     R8_USR = POMURICA_PLACE_R8_USR,
     SP_USR = POMURICA_PLACE_SP_USR,
+    LR_FIQ = POMURICA_PLACE_LR_FIQ,
     LR_IRQ = POMURICA_PLACE_LR_IRQ,
     LR_SVC = POMURICA_PLACE_LR_SVC,
     LR_ABT = POMURICA_PLACE_LR_ABT,
@@ -197,6 +199,54 @@ static const struct {
     { "debug with B in its highest bit", PREFETCH_ABORT, DEBUG, UINT32_C(1) << 31 },
     { "a Data Abort, debug", DATA_ABORT, DEBUG, 0 },
     { "a note on place 45", NOTE, POMURICA_PLACES, 0 },
+};
+
+#define FMO POMURICA_HCR_FMO
+#define IMO POMURICA_HCR_IMO
+#define AMO POMURICA_HCR_AMO
+#define VF POMURICA_HCR_VF
+#define VI POMURICA_HCR_VI
+#define VA POMURICA_HCR_VA
+
+/* No. 13: VF and VI signal a guest, by themselves, and stay. */
+static const struct worked_case SIGNALS[] = {
+    { "FMO, VF", { .scr = NS, .hcr = FMO | VF, .cpsr = 0x13, .pc = PC_HERE, .vbar_ns = 0x10000000 }, CHECK, 0,
+      POMURICA_DONE, 0x5111C, { { CPSR, 0x1D1 }, { LR_FIQ, 0x8004 }, { HCR, FMO | VF } }, 3 },
+    { "IMO, VI", { .scr = NS, .hcr = IMO | VI, .cpsr = 0x13, .pc = PC_HERE, .vbar_ns = 0x10000000 }, CHECK, 0,
+      POMURICA_DONE, 0x61218, { { CPSR, 0x192 }, { LR_IRQ, 0x8004 }, { HCR, IMO | VI } }, 3 },
+    { "both", { .scr = NS, .hcr = FMO | VF | IMO | VI, .cpsr = 0x13, .pc = PC_HERE, .vbar_ns = 0x10000000 }, CHECK, 0,
+      POMURICA_DONE, 0x5111C, { { CPSR, 0x1D1 }, { PC, 0x1000001C }, { HCR, FMO | VF | IMO | VI } }, 3 },
+    { "both, F masked", { .scr = NS, .hcr = FMO | VF | IMO | VI, .cpsr = 0x53, .pc = PC_HERE }, CHECK, 0,
+      POMURICA_DONE, 0x61218, { { CPSR, 0x1D2 }, { LR_IRQ, 0x8004 }, { PC, 0x18 } }, 3 },
+    { "from User", { .scr = NS, .hcr = IMO | VI, .cpsr = 0x10, .pc = PC_HERE }, CHECK, 0,
+      POMURICA_DONE, 0x61218, { { CPSR, 0x192 }, { LR_IRQ, 0x8004 }, { PC, 0x18 } }, 3 },
+    { "beside line FIQ", { .scr = NS, .hcr = IMO | VI, .cpsr = 0x53, .pc = PC_HERE }, CHECK, 2, /* which is masked */
+      POMURICA_DONE, 0x61218, { { CPSR, 0x1D2 }, { LR_IRQ, 0x8004 }, { PC, 0x18 } }, 3 },
+    { "VF without FMO", { .scr = NS, .hcr = VF | IMO, .cpsr = 0x13, .pc = PC_HERE }, CHECK, 0, .number = POMURICA_DONE },
+    { "VI without IMO", { .scr = NS, .hcr = VI | FMO, .cpsr = 0x13, .pc = PC_HERE }, CHECK, 0, .number = POMURICA_DONE },
+    { "neither", { .scr = NS, .hcr = FMO | IMO, .cpsr = 0x13, .pc = PC_HERE }, CHECK, 0, .number = POMURICA_DONE },
+    { "masked", { .scr = NS, .hcr = FMO | VF | IMO | VI, .cpsr = 0xD3, .pc = PC_HERE }, CHECK, 0, .number = POMURICA_DONE },
+    { "TGE", { .scr = NS, .hcr = TGE | FMO | VF | IMO | VI, .cpsr = 0x10, .pc = PC_HERE }, CHECK, 0, .number = POMURICA_DONE },
+    { "Hyp", { .scr = NS, .hcr = FMO | VF | IMO | VI, .cpsr = 0x1A, .pc = PC_HERE }, CHECK, 0, .number = POMURICA_DONE },
+    { "Secure", { .hcr = FMO | VF | IMO | VI, .cpsr = 0x13, .pc = PC_HERE }, CHECK, 0, .number = POMURICA_DONE },
+};
+
+/* No. 13: where lines 8 and 16 are tried: where they brought an interrupt, where HCR brings it, and where neither does. */
+static const struct {
+    const char *name;
+    uint32_t scr, hcr, cpsr, number;
+} LINES_IN[] = {
+    { "NS Supervisor, M 1", NS, AMO | FMO | IMO, 0x13, POMURICA_BAD_EVENT },
+    { "NS Supervisor, M 1 and sources", NS, AMO | FMO | IMO | VA | VF | VI, 0x13, POMURICA_BAD_EVENT },
+    { "NS Supervisor, M 1, masked", NS, AMO | FMO | IMO, 0x1D3, POMURICA_BAD_EVENT },
+    { "NS User, M 0", NS, 0, 0x10, POMURICA_BAD_EVENT },
+    { "NS User, TGE", NS, TGE, 0x10, POMURICA_BAD_EVENT },
+    { "Hyp", NS, FMO | IMO, 0x1A, POMURICA_BAD_EVENT },
+    { "Monitor, NS 1", NS, FMO | IMO, 0x16, POMURICA_BAD_EVENT },
+    { "Secure Supervisor", 0, FMO | IMO, 0x13, POMURICA_BAD_EVENT },
+    { "no mode", NS, FMO | IMO, 0x14, POMURICA_BAD_MODE },
+    { "Hyp, NS 0", 0, FMO | IMO, 0x1A, POMURICA_BAD_STATE },
+    { "NS Supervisor, TGE", NS, TGE | FMO | IMO, 0x13, POMURICA_BAD_STATE },
 };
 
 /* No. 9: where a mode has its saved word and the address of its return; User and System have none. */
@@ -502,6 +552,18 @@ static void run_bad_debugs(void)
     }
 }
 
+/* Every A that has a virtual line, from everywhere: refused, whatever other line is there. */
+static void run_lines(void)
+{
+    for (size_t i = 0; i < COUNT(LINES_IN); i++)
+        for (uint32_t lines = POMURICA_ALL_LINES + 1; lines <= POMURICA_OLD_ALL_LINES; lines++)
+            run_entry(&(struct worked_case){
+                .name = LINES_IN[i].name,
+                .start = { .scr = LINES_IN[i].scr, .hcr = LINES_IN[i].hcr, .cpsr = LINES_IN[i].cpsr, .pc = PC_HERE },
+                .code = CHECK, .a = lines, .number = LINES_IN[i].number,
+            });
+}
+
 /* A note on HDCR: any word, from any mode. */
 static void run_note(uint32_t cpsr, uint32_t word)
 {
@@ -716,6 +778,10 @@ int main(void)
     run_note(POMURICA_MODE_SUPERVISOR, UINT32_MAX);
     run_note(POMURICA_MODE_HYP, 0x12345678);
     run_note(POMURICA_MODE_MONITOR, TDE);
+    group("virtual interrupts by HCR, and checks with a virtual line");
+    for (size_t i = 0; i < COUNT(SIGNALS); i++)
+        run_entry(&SIGNALS[i]);
+    run_lines();
     group("returns, legal and illegal");
     for (size_t i = 0; i < COUNT(RETURNS); i++)
         run_return(&RETURNS[i]);

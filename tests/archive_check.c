@@ -2,9 +2,10 @@
  * The checker of the archive, called from C, on traces of both layouts: document
  * 01's worked case l, a trace cut before each of its bytes, bytes behind it, each
  * byte changed, every length and kind in each head, traces that mix the layouts
- * (No. 11), what the old one does not know, traces of older recorders, with calls
- * that are disabled now (No. 8) and returns before there were any (No. 9), and
- * every length of the report from 0 to 210.
+ * (No. 11), what the old one does not know, virtual lines, which it alone knows
+ * (No. 13), traces of older recorders, with calls that are disabled now (No. 8) and
+ * returns before there were any (No. 9), and every length of the report from 0 to
+ * 210.
  */
 #include "case_l.h"
 #include "edge.h"
@@ -236,23 +237,81 @@ static const struct {
     { POMURICA_EVENT_NOTE, POMURICA_PLACE_HDCR, POMURICA_HDCR_TDE },
 };
 
+/* The one Step of a trace shows BAD_EVENT, the value 0 and the block as it was. */
+static void refuse_step(uint8_t *trace)
+{
+    uint8_t *const step = trace + start_size(old);
+
+    pomurica_put_word(step, ANSWER, POMURICA_BAD_EVENT);
+    pomurica_put_word(step, ANSWER + 1, 0);
+    memcpy(step + 4 * STEP_BLOCK, trace + 4 * START_BLOCK, block_size(old));
+}
+
+/* Accepted or not, with one Step. */
+static void expect_one(const uint8_t *trace, bool accepted)
+{
+    if (accepted)
+        expect(trace, length_of(1), POMURICA_DONE, length_of(1), 1);
+    else
+        expect(trace, length_of(1), POMURICA_WRONG_STEP, start_size(old), 0);
+}
+
 /* A trace of one Step: refused with BAD_EVENT, and as the new layout has it done. */
 static void run_new_alone(uint32_t cpsr)
 {
     for (size_t i = 0; i < sizeof NEW_ALONE / sizeof NEW_ALONE[0]; i++) {
         const uint32_t event[1][3] = { { NEW_ALONE[i].code, NEW_ALONE[i].a, NEW_ALONE[i].b } };
-        const uint32_t whole = length_of(1), start = start_size(old);
         uint8_t trace[MOST_LENGTH], block[POMURICA_BLOCK_SIZE] = { 0 };
 
         pomurica_put_word(block, POMURICA_PLACE_CPSR, cpsr);
         pomurica_put_word(block, POMURICA_PLACE_SCR, POMURICA_SCR_NS);
         record(trace, block, event, 1); /* as the new layout does it */
-        expect(trace, whole, old ? POMURICA_WRONG_STEP : POMURICA_DONE, old ? start : whole, old ? 0 : 1);
-        pomurica_put_word(trace + start, ANSWER, POMURICA_BAD_EVENT);
-        pomurica_put_word(trace + start, ANSWER + 1, 0);
-        memcpy(trace + start + 4 * STEP_BLOCK, trace + 4 * START_BLOCK, block_size(old));
-        expect(trace, whole, old ? POMURICA_DONE : POMURICA_WRONG_STEP, old ? whole : start, old ? 1 : 0);
+        expect_one(trace, !old);
+        refuse_step(trace);
+        expect_one(trace, old);
     }
+}
+
+/* A check that is brought by bits of HCR, and the lines that bring the same without them. */
+static const struct {
+    uint32_t cpsr, stored, bits, lines, others, value;
+} BY_LINE[] = {
+    { 0x13, POMURICA_HCR_FMO, POMURICA_HCR_VF, POMURICA_LINE_VIRTUAL_FIQ, 0, 0x5111C },
+    { 0x13, POMURICA_HCR_IMO, POMURICA_HCR_VI, POMURICA_LINE_VIRTUAL_IRQ, 0, 0x61218 },
+    { 0x10, POMURICA_HCR_IMO, POMURICA_HCR_VI, POMURICA_LINE_VIRTUAL_IRQ, 0, 0x61218 },
+    { 0x13, POMURICA_HCR_FMO | POMURICA_HCR_IMO, POMURICA_HCR_VF | POMURICA_HCR_VI,
+      POMURICA_LINE_VIRTUAL_FIQ | POMURICA_LINE_VIRTUAL_IRQ, 0, 0x5111C },
+    { 0x53, POMURICA_HCR_FMO | POMURICA_HCR_IMO, POMURICA_HCR_VF | POMURICA_HCR_VI,
+      POMURICA_LINE_VIRTUAL_FIQ | POMURICA_LINE_VIRTUAL_IRQ, 0, 0x61218 }, /* F is masked */
+    { 0x13, POMURICA_HCR_FMO, POMURICA_HCR_VF, POMURICA_LINE_VIRTUAL_FIQ, POMURICA_LINE_IRQ, 0x31218 }, /* IRQ goes before */
+    { 0x13, 0, POMURICA_HCR_VF, POMURICA_LINE_VIRTUAL_FIQ, 0, 0 },         /* FMO is 0: nothing */
+    { 0x1A, POMURICA_HCR_IMO, POMURICA_HCR_VI, POMURICA_LINE_VIRTUAL_IRQ, 0, 0 }, /* nor in Hyp */
+};
+
+/*
+ * A trace of one check, which takes what it takes by HCR: so far it is right in both layouts.  The same by the lines, with
+ * HCR without the bits in both blocks, is right in the old one alone; refused with BAD_EVENT, in the new one alone.
+ */
+static void run_by_line(size_t i)
+{
+    const uint32_t event[1][3] = { { POMURICA_EVENT_INTERRUPT_CHECK, BY_LINE[i].others, 0 } };
+    uint8_t trace[MOST_LENGTH], block[POMURICA_BLOCK_SIZE] = { 0 };
+    uint8_t *const step = trace + start_size(old);
+
+    pomurica_put_word(block, POMURICA_PLACE_CPSR, BY_LINE[i].cpsr);
+    pomurica_put_word(block, POMURICA_PLACE_SCR, POMURICA_SCR_NS);
+    pomurica_put_word(block, POMURICA_PLACE_HCR, BY_LINE[i].stored | BY_LINE[i].bits);
+    record(trace, block, event, 1);
+    check(pomurica_get_word(step, ANSWER + 1) == BY_LINE[i].value, "row %zu: value 0x%X", i,
+          pomurica_get_word(step, ANSWER + 1));
+    expect_one(trace, true);
+    pomurica_put_word(step, A, BY_LINE[i].others | BY_LINE[i].lines);
+    expect_one(trace, old); /* the bits beside the lines */
+    pomurica_put_word(trace, START_BLOCK + POMURICA_PLACE_HCR, BY_LINE[i].stored);
+    pomurica_put_word(step, STEP_BLOCK + POMURICA_PLACE_HCR, BY_LINE[i].stored);
+    expect_one(trace, old);
+    refuse_step(trace);
+    expect_one(trace, !old);
 }
 
 /* A call from one block, with a word of SCR that enables it and one that does not. */
@@ -367,6 +426,9 @@ static void run_in(bool in_old)
     run_new_alone(POMURICA_MODE_USER);
     run_new_alone(POMURICA_MODE_SUPERVISOR);
     run_new_alone(POMURICA_MODE_HYP);
+    group_of(layout, "checks with virtual lines, shown as done and as refused");
+    for (size_t i = 0; i < sizeof BY_LINE / sizeof BY_LINE[0]; i++)
+        run_by_line(i);
     group_of(layout, "calls that are disabled, shown as taken and as refused");
     for (size_t i = 0; i < sizeof CALLS / sizeof CALLS[0]; i++)
         run_call(&CALLS[i]);

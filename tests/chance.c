@@ -20,7 +20,7 @@ static const uint32_t OFF_LR[] = { 0, 2, 4, 8 };
 const uint32_t LARGEST_A[CODES] = {
     [CODE_PREFETCH_ABORT] = ABORT_DEBUG,
     [CODE_DATA_ABORT] = 3,
-    [CODE_INTERRUPT_CHECK] = 31,
+    [CODE_INTERRUPT_CHECK] = LINE_SERROR | LINE_FIQ | LINE_IRQ,
     [CODE_BANKED_READ] = 63,
     [CODE_BANKED_WRITE] = 63,
     [CODE_NOTE] = PLACES - 1,
@@ -40,6 +40,8 @@ static uint32_t largest_a(const struct chance *chance, uint32_t code)
         return places(chance) - 1;
     if (chance->old && code == CODE_PREFETCH_ABORT)
         return LARGEST_A[CODE_DATA_ABORT];
+    if (chance->old && code == CODE_INTERRUPT_CHECK)
+        return LARGEST_A[code] | LINE_VFIQ | LINE_VIRQ;
     return code < CODES ? LARGEST_A[code] : 0;
 }
 
@@ -250,8 +252,8 @@ struct event event_of(struct chance *chance, uint32_t code, const uint8_t *block
         event.a = any_below(chance, largest_a(chance, code) + 1);
         break;
     case CODE_INTERRUPT_CHECK:
-        event.a = any_below(chance, LARGEST_A[code] + 1);
-        if (one_in(chance, 3)) /* with no physical one before it, a virtual one is taken */
+        event.a = any_below(chance, largest_a(chance, code) + 1);
+        if (one_in(chance, 3)) /* with no physical one before it, a virtual one is taken: by HCR, in the old layout by its line too */
             event.a &= LINE_VFIQ | LINE_VIRQ;
         break;
     case CODE_BANKED_WRITE:
@@ -318,6 +320,14 @@ static struct event odd_event(struct chance *chance, const uint8_t *block)
     return event;
 }
 
+/* What the new layout does not know (No. 13): a check with a virtual line or both, and with any others or none. */
+static struct event event_of_old(struct chance *chance)
+{
+    const uint32_t lines = LINE_VFIQ * (1 + any_below(chance, 3));
+
+    return (struct event){ CODE_INTERRUPT_CHECK, lines | any_below(chance, LARGEST_A[CODE_INTERRUPT_CHECK] + 1), 0 };
+}
+
 /*
  * What the old layout does not know: a debug abort, now and then with another bit beside it, and a note on HDCR; and a
  * return with that A, which is no place there.
@@ -337,10 +347,45 @@ static struct event event_of_new(struct chance *chance)
     }
 }
 
+/* A note on the way to a guest that can take a virtual interrupt: else few Steps of a trace are in one. */
+static struct event guest_note(struct chance *chance, const uint8_t *block)
+{
+    if ((get(block, SCR) & SCR_NS) == 0)
+        return (struct event){ CODE_NOTE, SCR, get(block, SCR) | SCR_NS };
+    if ((get(block, HCR) & HCR_TGE) != 0)
+        return (struct event){ CODE_NOTE, HCR, any_word(chance) & ~(uint32_t)HCR_TGE };
+    return (struct event){ CODE_NOTE, CPSR, MODES[any_below(chance, MODE_COUNT)] };
+}
+
+static bool is_unmasked(const uint8_t *block)
+{
+    return (get(block, CPSR) & (CPSR_A | CPSR_I | CPSR_F)) == 0;
+}
+
+/* Events that came with a later request: never among those of the old layout without strays, which stay as they were. */
+static bool is_later(struct chance *chance, const uint8_t *block, struct event *event)
+{
+    if (chance->old && !chance->strays)
+        return false;
+    if (one_in(chance, 32))
+        *event = event_of_new(chance);
+    else if (!chance->old && one_in(chance, 48))
+        *event = event_of_old(chance);
+    else if (one_in(chance, 8))
+        *event = guest_note(chance, block);
+    else if (is_unmasked(block) && one_in(chance, 2))
+        *event = event_of(chance, CODE_INTERRUPT_CHECK, block);
+    else
+        return false;
+    return true;
+}
+
 struct event any_event(struct chance *chance, const uint8_t *block)
 {
-    if ((!chance->old || chance->strays) && one_in(chance, 32))
-        return event_of_new(chance);
+    struct event later;
+
+    if (is_later(chance, block, &later))
+        return later;
     if (one_in(chance, 10))
         return odd_event(chance, block);
     if (one_in(chance, 8)) /* the event with the most cases */

@@ -13,8 +13,8 @@
 /* Where the numbers come from; any seed will do. */
 struct chance {
     uint64_t seed;
-    bool old;    /* whether blocks and events are of the old layout (No. 11): with HDCR 0, and without debug */
-    bool strays; /* whether events that it does not know come among them all the same, as in the new one */
+    bool old;    /* whether blocks and events are of the old layout: HDCR 0 and no debug (No. 11), virtual lines (No. 13) */
+    bool strays; /* whether events that the old layout does not know come among them all the same, as in the new one */
 };
 
 struct event {

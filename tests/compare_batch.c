@@ -14,6 +14,7 @@
 #include "group.h"
 #include "numbers.h"
 #include "question.h"
+#include "signals.h"
 
 #include <inttypes.h>
 #include <stdio.h>
@@ -55,9 +56,9 @@ static const char *const KIND_NAMES[KINDS] = {
     [NONE_AND_BLOCK] = "BAD_SIZE: no event, block",
 };
 
-/* How often each kind of list, and each number of an answer, was met. */
+/* How often each kind of list, each number of an answer, and each end of a check that is of a virtual interrupt was met. */
 static struct {
-    unsigned long list[KINDS], answer[STEP_NUMBERS];
+    unsigned long list[KINDS], answer[STEP_NUMBERS], signal[SIGNALS];
 } met;
 
 /* ----------------------------------------------------------- What is met */
@@ -107,8 +108,13 @@ static void meet_done(const struct list *list, const struct batched *batched)
     met.list[REFUSED_BETWEEN] += is_refused_between(batched);
     met.list[MOVED] += !is_unchanged(&batched->block);
     met.list[NOT_GOOD] += is_not_good(list, batched);
-    for (size_t i = 0; i < list->events_len; i++)
-        met.answer[answers_of(batched)[i].number]++;
+    for (size_t i = 0; i < list->events_len; i++) {
+        const struct pomurica_event *const event = &list->events[i];
+        const struct pomurica_answer *const answer = &answers_of(batched)[i];
+
+        met.answer[answer->number]++;
+        met.signal[signal_of(event->code, event->a, answer->number, answer->value)]++;
+    }
 }
 
 /* -------------------------------------------------------------- One list */
@@ -232,6 +238,7 @@ static void show_met(unsigned long thousands)
             show(pomurica_number_name(number), met.answer[number], seldom);
         else
             check(met.answer[number] == 0, "an event has the answer %s", pomurica_number_name(number));
+    show_signals(met.signal, seldom);
 }
 
 int main(int argc, char **argv)

@@ -14,6 +14,7 @@
 #include "events.h"
 #include "group.h"
 #include "numbers.h"
+#include "signals.h"
 
 #include <inttypes.h>
 #include <stdio.h>
@@ -72,9 +73,12 @@ enum {
     CODES = POMURICA_EVENT_RETURN + 1 /* 0 is for any that is unknown */
 };
 
-/* How often each kind and number of a recording was met; and of its Steps, by number, and by code: refused and done. */
+/*
+ * How often each kind and number of a recording was met; and of its Steps, by number, by code, refused and done, and by
+ * the end of a check that is of a virtual interrupt.
+ */
 static struct {
-    unsigned long kind[KINDS], number[NUMBERS], answer[STEP_NUMBERS], step[CODES][2];
+    unsigned long kind[KINDS], number[NUMBERS], answer[STEP_NUMBERS], step[CODES][2], signal[SIGNALS];
 } met;
 
 /* ----------------------------------------------------------- What is due */
@@ -129,12 +133,14 @@ static void meet_steps(const struct recording *asked, const struct recorded *rec
     int met_so_far = 0;
 
     for (size_t i = 0; i < asked->events_len; i++) {
-        const uint32_t number = pomurica_get_word(step_at(asked, recorded, i), POMURICA_STEP_NUMBER);
+        const uint8_t *const step = step_at(asked, recorded, i);
+        const uint32_t number = pomurica_get_word(step, POMURICA_STEP_NUMBER);
         const uint32_t code = asked->events[i].code;
         const bool done = number == POMURICA_DONE;
 
         met.answer[number]++;
         met.step[code < CODES ? code : 0][done]++;
+        met.signal[signal_of(code, asked->events[i].a, number, pomurica_get_word(step, POMURICA_STEP_VALUE))]++;
         met_so_far += met_so_far < 3 && done == (met_so_far != 1);
     }
     met.kind[REFUSED_BETWEEN] += met_so_far == 3;
@@ -332,6 +338,7 @@ static void show_met(unsigned long thousands)
             check(met.answer[number] == 0, "%s", name);
     }
     show_codes(seldom);
+    show_signals(met.signal, seldom);
 }
 
 int main(int argc, char **argv)

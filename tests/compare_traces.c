@@ -40,19 +40,24 @@ check_function OTHER_CHECK;
 
 /*
  * How often each number is given in a thousand traces, at least; how often each answer stands in an accepted Step, and
- * what only the new layout knows: done there, and refused in the old one.
+ * what only one layout knows: done there, and refused in the other one.  And in how many thousands a virtual interrupt is
+ * taken in each way.
  */
 #define SELDOM 10
 #define SELDOM_ANSWER 3
-#define SELDOM_NEW 1
+#define SELDOM_KNOWN 1
+#define THOUSANDS_TO_VIRTUAL 4
 
 #define NUMBERS (TRAILING + 1)
 
 /* How often each number was given, by layout and damage; a trace is of the new one if it opens with its kind. */
 static unsigned long met[LAYOUTS][DAMAGES][NUMBERS];
 
-/* How often each answer stood in an accepted Step; and, by whether it was done, a debug abort and a note on HDCR. */
-static unsigned long met_answer[LAYOUTS][STEP_NUMBERS], met_debug[LAYOUTS][2], met_note[LAYOUTS][2];
+/* How often each answer stood in an accepted Step; and, by whether it was done, what only one layout knows. */
+static unsigned long met_answer[LAYOUTS][STEP_NUMBERS], met_debug[LAYOUTS][2], met_note[LAYOUTS][2], met_line[LAYOUTS][2];
+
+/* How often an accepted Step took a virtual FIQ and a virtual IRQ, by whether VF or VI stood in HCR: else its line brought it. */
+static unsigned long met_fiq[LAYOUTS][2], met_irq[LAYOUTS][2];
 
 /* One call of a checker, and what came of it. */
 struct call {
@@ -169,6 +174,16 @@ static enum layout layout_of(const uint8_t *trace, size_t length)
     return is_taken_for_old(trace, length) ? OLD_LAYOUT : NEW_LAYOUT;
 }
 
+/* A check that an accepted Step shows done; the block before it ends where it begins. */
+static void meet_check(enum layout layout, const uint8_t *step)
+{
+    const uint32_t hcr = get_word(step - block_size(layout == OLD_LAYOUT) + 4 * HCR);
+    const uint32_t which = get_word(step + STEP_VALUE) >> 16;
+
+    met_fiq[layout][(hcr & HCR_VF) != 0] += which == POMURICA_WHICH_VIRTUAL_FIQ;
+    met_irq[layout][(hcr & HCR_VI) != 0] += which == POMURICA_WHICH_VIRTUAL_IRQ;
+}
+
 static void meet_step(enum layout layout, const uint8_t *step)
 {
     const uint32_t code = get_word(step + STEP_CODE), a = get_word(step + STEP_A);
@@ -177,6 +192,9 @@ static void meet_step(enum layout layout, const uint8_t *step)
     met_answer[layout][number]++;
     met_debug[layout][number == DONE] += code == CODE_PREFETCH_ABORT && a == ABORT_DEBUG;
     met_note[layout][number == DONE] += code == CODE_NOTE && a == HDCR;
+    met_line[layout][number == DONE] += code == CODE_INTERRUPT_CHECK && (a & (LINE_VFIQ | LINE_VIRQ)) != 0;
+    if (code == CODE_INTERRUPT_CHECK && number == DONE)
+        meet_check(layout, step);
 }
 
 static void meet_answers(const uint8_t *trace, size_t length)
@@ -250,13 +268,25 @@ static void show_answers(enum layout layout, unsigned long seldom)
     }
 }
 
-/* What only the new layout knows: done there, from a good block; refused in the old one, and never done. */
-static void show_new(const char *what, unsigned long (*times)[2], unsigned long seldom)
+/* What only one layout knows: done there, from a good block; refused in the other one, and never done. */
+static void show_known(const char *what, enum layout layout, unsigned long (*times)[2], unsigned long seldom)
 {
-    printf("  %-36s %10lu %10lu\n", what, times[NEW_LAYOUT][true], times[OLD_LAYOUT][false]);
-    check(times[NEW_LAYOUT][true] >= seldom && times[OLD_LAYOUT][false] >= seldom && times[OLD_LAYOUT][true] == 0,
-          "%s: done %lu times, in the old layout refused %lu times and done %lu", what, times[NEW_LAYOUT][true],
-          times[OLD_LAYOUT][false], times[OLD_LAYOUT][true]);
+    const enum layout other = layout == OLD_LAYOUT ? NEW_LAYOUT : OLD_LAYOUT;
+
+    printf("  %-36s %10lu %10lu\n", what, times[layout][true], times[other][false]);
+    check(times[layout][true] >= seldom && times[other][false] >= seldom && times[other][true] == 0,
+          "%s: done %lu times, in the %s refused %lu times and done %lu", what, times[layout][true],
+          layout_name(other == OLD_LAYOUT), times[other][false], times[other][true]);
+}
+
+/* A virtual interrupt: in the new layout by its bit of HCR alone, in the old one by that and by its line alone. */
+static void show_virtual(const char *what, unsigned long (*times)[2], unsigned long seldom)
+{
+    printf("  %-36s %10lu %10lu %10lu\n", what, times[NEW_LAYOUT][true], times[OLD_LAYOUT][true], times[OLD_LAYOUT][false]);
+    check(times[NEW_LAYOUT][true] >= seldom && times[OLD_LAYOUT][true] >= seldom && times[OLD_LAYOUT][false] >= seldom &&
+              times[NEW_LAYOUT][false] == 0,
+          "%s: by HCR %lu times, in the old layout %lu, by its line there %lu times and in the new one %lu", what,
+          times[NEW_LAYOUT][true], times[OLD_LAYOUT][true], times[OLD_LAYOUT][false], times[NEW_LAYOUT][false]);
 }
 
 static void show_met(unsigned long thousands)
@@ -265,9 +295,13 @@ static void show_met(unsigned long thousands)
         show((enum layout)layout, SELDOM * thousands);
         show_answers((enum layout)layout, SELDOM_ANSWER * thousands);
     }
-    printf("  %-36s %10s %10s\n", "", "new, done", "old");
-    show_new("debug abort", met_debug, SELDOM_NEW * thousands);
-    show_new("note on HDCR", met_note, SELDOM_NEW * thousands);
+    printf("  %-36s %10s %10s\n", "known in one layout", "there done", "refused");
+    show_known("debug abort, in the new one", NEW_LAYOUT, met_debug, SELDOM_KNOWN * thousands);
+    show_known("note on HDCR, in the new one", NEW_LAYOUT, met_note, SELDOM_KNOWN * thousands);
+    show_known("virtual line, in the old one", OLD_LAYOUT, met_line, SELDOM_KNOWN * thousands);
+    printf("  %-36s %10s %10s %10s\n", "taken", "new, HCR", "old, HCR", "old, line");
+    show_virtual("virtual FIQ", met_fiq, thousands / THOUSANDS_TO_VIRTUAL);
+    show_virtual("virtual IRQ", met_irq, thousands / THOUSANDS_TO_VIRTUAL);
 }
 
 int main(int argc, char **argv)

@@ -169,6 +169,20 @@ def try_due():
         expect_page('its page', page_of('begun'), told, steps=0)
 
 
+def try_virtual_lines():
+    """What only the old layout knows, in lines and on the page; and the same in the new one."""
+    reason = 'refused with 4 BAD_EVENT (a virtual line: in the new layout HCR.VF and VI signal a guest)'
+    taken = 'virtual IRQ: enters IRQ mode at 0x18'
+    for name, event, outcome in (('virtual-by-hcr', 'no line', taken), ('virtual-line-in-old', 'lines virtual IRQ', taken),
+                                 ('virtual-line', 'A 16, above 7', reason), ('virtual-line-taken', 'A 16, above 7', reason)):
+        told = f'interrupt check, {event}', 'Non-secure Supervisor, nothing masked', outcome
+        sample = os.path.join(SAMPLES, f'{name}.trace')
+        line = run('--trace', sample)[1].decode().splitlines()[2]
+        expect(f'--trace {name}: the check', line.removesuffix(': WRONG').endswith(f': {"; ".join(told)}'), line)
+        page = run('--html', sample)[1].decode()
+        expect('its page', all(part in page for part in told), page)
+
+
 def try_layouts():
     """What only the new layout knows, in lines and on the page; and the same in the old one."""
     for name, due in {'debug': (4, 2), 'debug-in-old': (0, 0), 'honest-old': (0, 0)}.items():
@@ -180,6 +194,7 @@ def try_layouts():
     expect('refused in the old one', refused == [
         (event, 'refused with 4 BAD_EVENT (not known in the old layout)') for event in
         ('Prefetch Abort, A 4, above 3', 'note of 0x00000000, A 44, above 43')], refused)
+    try_virtual_lines()
     new, old = (run('--explain', '--trace', os.path.join(SAMPLES, name))[1].decode().splitlines()[1:] for name in
                 ('honest.trace', 'honest-old.trace'))
     places = [re.search(r'at byte (\d+): (.*)', line).groups() for lines in (new, old) for line in lines]

@@ -9,7 +9,7 @@ import re
 import sys
 
 sys.dont_write_bytecode = True
-from records import END_SIZE, OLD, START_BLOCK, START_SIZE, STEP_BLOCK, STEP_NUMBER, STEP_SIZE, as_old  # noqa: E402
+from records import END_SIZE, OLD, START_BLOCK, START_SIZE, STEP_BLOCK, STEP_EVENT, STEP_NUMBER, STEP_SIZE, as_old  # noqa: E402
 from runs import Runs, read  # noqa: E402
 
 SAMPLES = os.path.abspath(sys.argv[1])
@@ -38,6 +38,8 @@ MISUSED = [
     (['copy', '1', 'CPSR', 'SPSR'], "no place 'SPSR' in the block"),
     (['answer', '1'], 'answer takes STEP NUMBER'),
     (['answer', '10', '7'], 'no Step 10: the trace has 9'),
+    (['operand', '1'], 'operand takes STEP NUMBER'),
+    (['operand', '10', '7'], 'no Step 10: the trace has 9'),
     (['flip', '1', 'CPSR', '32'], 'no bit 32 in a word'),
     (['flip-all', 'SCR'], 'flip-all takes PLACE BIT'),
     (['flip-all', 'SCR', '-1'], 'no bit -1 in a word'),
@@ -111,6 +113,9 @@ def try_kinds():
     at = START_SIZE + STEP_NUMBER
     answered = HONEST[:at] + bytes([7, 0, 0, 0]) + HONEST[at + 4:]
     expect('an answer', damage('answer', '1', '7') == (0, answered, b'') and answered != HONEST)
+    at = START_SIZE + STEP_EVENT + 4  # behind the code
+    operand = HONEST[:at] + bytes([16, 0, 0, 0]) + HONEST[at + 4:]
+    expect('an operand', damage('operand', '1', '16') == (0, operand, b'') and operand != HONEST)
     expect('a sum wraps', damage('add', '1', 'R8_usr', '0x100000000') == (0, HONEST, b''))
     expect('a cut of nothing, and of everything', (damage('cut', '0')[1], damage('cut', '2032')[1]) == (b'', HONEST))
 

@@ -96,7 +96,7 @@ static void show_taken(void)
 {
     static const char *const WHICH[WHICH_COUNT] = {
         "taken: synchronous", "taken: SError", "taken: FIQ", "taken: IRQ",
-        "taken: virtual SError", "taken: virtual FIQ", "taken: virtual IRQ",
+        "taken: virtual SError by VA", "taken: virtual FIQ by VF", "taken: virtual IRQ by VI",
     };
     static const char *const MASKING[ROWS] = {
         "Secure", "Non-secure, M 0, R 0", "Non-secure, M 0, R 1, W 0", "Non-secure, M 0, R 1, W 1",
@@ -111,6 +111,35 @@ static void show_taken(void)
     show("not Hyp, M by TGE alone", met.by_tge_alone[4]);
     show("Hyp, R 0, M by TGE alone", met.by_tge_alone[5]);
     show("Hyp, R 1, M by TGE alone", met.by_tge_alone[6]);
+}
+
+/* By the bits of which each is 1 (enum virtual_bits). */
+static void show_virtual(void)
+{
+    static const char *const COLUMNS[VIRTUAL_BITS] = {
+        "none", "M", "source", "M source", "mask", "M mask", "source mask", "all three",
+    };
+    static const char *const NAMES[VIRTUALS] = { "SError", "FIQ", "IRQ" };
+    const struct ends table = { COLUMNS, VIRTUAL_BITS, "nt", seldom }; /* as enum virtual_end */
+
+    printf("\n  virtual exceptions by M (AMO, FMO, IMO), their source (VA, VF, VI) and their mask bit: n not taken, t taken");
+    show_heads("virtual", COLUMNS, VIRTUAL_BITS);
+    for (uint32_t i = 0; i < VIRTUALS; i++)
+        show_ends(&table, NAMES[i], "nnntnnnn", met.virtual[i][0]);
+}
+
+static void show_retired(void)
+{
+    static const char *const COLUMNS[OTHER_LINES] = {
+        "none", "SError", "FIQ", "SError FIQ", "IRQ", "SError IRQ", "FIQ IRQ", "all three",
+    };
+    static const char *const NAMES[RETIRED] = { "virtual FIQ", "virtual IRQ", "both" };
+    const struct ends table = { COLUMNS, OTHER_LINES, "ek", seldom }; /* as enum retired_end */
+
+    printf("\n  checks with a virtual line, by the others beside it: e BAD_EVENT, k known");
+    show_heads("line", COLUMNS, OTHER_LINES);
+    for (uint32_t i = 0; i < RETIRED; i++)
+        show_ends(&table, NAMES[i], "eeeeeeee", met.retired[i][0]);
 }
 
 static void show_ways(void)
@@ -490,6 +519,8 @@ void show_met(unsigned long millions)
     seldom_of_many = SELDOM_OF_MANY * millions;
     show_numbers();
     show_taken();
+    show_virtual();
+    show_retired();
     show_ways();
     show_calls();
     show_debugs();

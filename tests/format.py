@@ -122,6 +122,16 @@ def check_records(numbers):
     check(len(rows) == 5, "a Start and a Step of each layout, and an End")
 
 
+def check_lines(numbers):
+    """The lines of an interrupt check, of both layouts, and the sums of all."""
+    row = re.search(r"^\| 9 \| interrupt check \| 0 to (\d+): .*? 0 to (\d+), ", PAGE, re.MULTILINE)
+    check([int(most) for most in row.groups()] == [numbers["ALL_LINES"], numbers["OLD_ALL_LINES"]],
+          "the most that lines add up to, in both layouts")
+    told = re.findall(r"(\d+) ((?:virtual )?(?:SError|FIQ|IRQ))", row.string[row.start():].splitlines()[0])
+    check([int(line) for line, _ in told] == [numbers["LINE_" + name.upper().replace(" ", "_")] for _, name in told]
+          and len(told) == 5, f"the lines are the header's {told}")
+
+
 def check_judged(console, name, trace, start, spsr):
     """A drawn trace is accepted, and refused without its SPSR_svc."""
     status, line = judge(console, trace)
@@ -146,6 +156,7 @@ def main():
     check(len(rows) > 40 and not wrong, f"the {len(rows)} fields of the table of bits are the header's {wrong or ''}")
     check_places(numbers)
     check_numbers()
+    check_lines(numbers)
     codes = re.findall(r"^\| (\d+) \| (.*?)[,:|]", PAGE.split("## The event")[1].split("## The answer")[0], re.MULTILINE)
     check([int(code) for code, _ in codes] == list(range(1, numbers["EVENT_RETURN"] + 1)), "the thirteen codes, in order")
     print(f"{sum(results)} passed, {len(results) - sum(results)} failed")

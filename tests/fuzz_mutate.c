@@ -51,7 +51,7 @@ static size_t smaller(size_t one, size_t other)
 
 /* Words at which something ends or begins: operands, places, cells, parts of a value, counts. */
 static const uint32_t LIMITS[] = {
-    0, 1, 2, 3, 4, 5, 8, 9, 13, 14, 31, 32, 43, 44, 45, 63, 64, POMURICA_HDCR_TDE, 0x60000, 0x70000,
+    0, 1, 2, 3, 4, 5, 7, 8, 9, 13, 14, 16, 31, 32, 43, 44, 45, 63, 64, POMURICA_HDCR_TDE, 0x60000, 0x70000,
     POMURICA_MOST_STEPS, POMURICA_MOST_STEPS + 1, UINT32_MAX,
 };
 

@@ -66,6 +66,39 @@ static void count_rows(const struct steering *before, uint32_t lines)
     }
 }
 
+/* A done check without a line, where virtual exceptions can be pending: each in order, until one is taken. */
+static void count_virtual(const struct steering *before, uint32_t which)
+{
+    static const struct {
+        uint32_t m, source, mask;
+    } DECIDING[VIRTUALS] = {
+        { HCR_AMO, HCR_VA, CPSR_A }, { HCR_FMO, HCR_VF, CPSR_F }, { HCR_IMO, HCR_VI, CPSR_I },
+    };
+
+    if (!before->non_secure || before->mode == MODE_HYP || (before->hcr & HCR_TGE) != 0)
+        return;
+    for (uint32_t i = 0; i < VIRTUALS; i++) {
+        const uint32_t bits = ((before->hcr & DECIDING[i].m) != 0 ? WITH_M : 0u) |
+                              ((before->hcr & DECIDING[i].source) != 0 ? WITH_SOURCE : 0u) |
+                              ((before->cpsr & DECIDING[i].mask) != 0 ? WITH_MASK : 0u);
+        const bool taken = which == POMURICA_WHICH_VIRTUAL_SERROR + i;
+
+        met.virtual[i][bits][taken ? VIRTUAL_TAKEN : VIRTUAL_NOT_TAKEN]++;
+        if (taken)
+            return;
+    }
+}
+
+/* A check with virtual lines, on a good block. */
+static void count_retired(const struct event *event, uint32_t number)
+{
+    const uint32_t lines = event->a / LINE_VFIQ, others = event->a % LINE_VFIQ;
+
+    if (event->code != CODE_INTERRUPT_CHECK || event->b != 0 || lines == 0 || lines > RETIRED)
+        return;
+    met.retired[lines - 1][others][number == BAD_EVENT ? LINE_REFUSED : LINE_KNOWN]++;
+}
+
 static bool is_debug(const struct event *event)
 {
     return event->code == CODE_PREFETCH_ABORT && event->a == ABORT_DEBUG;
@@ -135,6 +168,8 @@ static void count_done(const struct event *event, const struct steering *before,
     met.done++;
     if (event->code == CODE_INTERRUPT_CHECK) {
         count_rows(before, event->a);
+        if (event->a == 0)
+            count_virtual(before, value >> 16);
         if (value == 0)
             met.nothing_taken++;
     }
@@ -338,6 +373,7 @@ void count_step(const struct question *question, const struct call *call)
     if (number == DONE || number >= BAD_EVENT) {
         count_operands(event);
         count_new(event, &before, call);
+        count_retired(event, number);
     }
     if (number == DONE || number >= NOT_HERE) {
         met.judged[event->code][before.mode]++;

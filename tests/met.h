@@ -1,6 +1,7 @@
 /*
  * What a comparison of steps met, and how often: numbers, entries and the ways
  * to them, calls by the bits that decide them, debug aborts by what decides them,
+ * virtual exceptions by the bits that decide them, lines that are retired,
  * returns, legal and illegal, by what decides them, operands at the ends of their
  * ranges, notes refused for the block they would make, and every right to a
  * banked register.
@@ -57,6 +58,33 @@ enum debug_end {
 
 /* A Prefetch Abort that says more than debug: with 1, 2 or both. */
 enum { BESIDE_DEBUG = 4 };
+
+/* A virtual exception, where it can be pending and nothing goes before it, by the bits that decide it (No. 13: no line does). */
+enum virtual {
+    VIRTUAL_SERROR, VIRTUAL_FIQ, VIRTUAL_IRQ,
+    VIRTUALS
+};
+enum virtual_bits {
+    WITH_M = 1, WITH_SOURCE = 2, WITH_MASK = 4, /* AMO, FMO, IMO; VA, VF, VI; A, F, I */
+    VIRTUAL_BITS = 8
+};
+enum virtual_end {
+    VIRTUAL_NOT_TAKEN, VIRTUAL_TAKEN,
+    VIRTUAL_ENDS
+};
+
+/* A check with virtual lines, which are retired: either, or both; beside every combination of the others. */
+enum retired {
+    RETIRED_FIQ, RETIRED_IRQ, RETIRED_BOTH,
+    RETIRED
+};
+enum {
+    OTHER_LINES = LINE_VFIQ
+};
+enum retired_end {
+    LINE_REFUSED, LINE_KNOWN,
+    LINE_ENDS
+};
 
 /* A done return; and what its operands alone come to: A of 0 to 9, each, any that is larger, and a right A with a B. */
 enum return_end {
@@ -129,6 +157,8 @@ struct met {
     unsigned long note_on_hdcr[2];                          /* by TDE before: done, and TDE changes */
     struct returns_met returns;
     unsigned long nothing_taken;
+    unsigned long virtual[VIRTUALS][VIRTUAL_BITS][VIRTUAL_ENDS];
+    unsigned long retired[RETIRED][OTHER_LINES][LINE_ENDS]; /* on a good block: BAD_EVENT, or another number */
     unsigned long row[ROWS]; /* an exception is pending, its mask bit is 1, the row decides */
     unsigned long by_tge_alone[ROWS]; /* the same, M being 1 by TGE and not by its own bit */
     unsigned long largest[CODES], above[CODES]; /* by code: A at its largest, and one above */

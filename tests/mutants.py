@@ -12,6 +12,7 @@ SCRIPT = os.path.abspath(sys.argv[1])
 # Of a return: each row of the list of illegal ones gone, IL forgotten, an odd address, A from Hyp, a saved word not looked at.
 # Of debug and the layouts: another A, HDCR not asked, a state where it does not go to Hyp, known in the old layout,
 # unknown in the new one, a kind above the new Start's.
+# Of a virtual line: of another event, the one alone, the other alone, none, and any check or any event with such a bit.
 # Of the batch: an answer too many, more events than answers, an event left out.
 # Of the counts: a code too few, refused Steps counted as done, a sum that just fits, room that just does.
 # Of a session: the most Steps refused, the other layout, a byte too many held, a head judged too often, a block kept,
@@ -44,6 +45,12 @@ KILLED = [
     'is_debug_to_hyp: if ([[is_secure(block) || mode_of(block) == MODE_HYP => not]])',
     'is_unknown_in: return is_debug(event) [[|| => &&]] (event->code == CODE_NOTE && event->a == HDCR);',
     'is_unknown_in: if (layout == [[OLD_LAYOUT => NEW_LAYOUT]])',
+    'has_virtual_line: return event->code == [[CODE_INTERRUPT_CHECK => CODE_BANKED_READ]] && '
+    '(event->a & (LINE_VFIQ | LINE_VIRQ)) != 0;',
+    'has_virtual_line: return event->code == CODE_INTERRUPT_CHECK && (event->a & ([[LINE_VFIQ => LINE_VIRQ]] | LINE_VIRQ)) != 0;',
+    'has_virtual_line: return event->code == CODE_INTERRUPT_CHECK && (event->a & (LINE_VFIQ | [[LINE_VIRQ => LINE_VFIQ]])) != 0;',
+    'has_virtual_line: return event->code == CODE_INTERRUPT_CHECK && (event->a & (LINE_VFIQ [[| => &]] LINE_VIRQ)) != 0;',
+    'has_virtual_line: return event->code == CODE_INTERRUPT_CHECK [[&& => ||]] (event->a & (LINE_VFIQ | LINE_VIRQ)) != 0;',
     'second_layout_of: return get_half(header + 2) [[== => >=]] START[NEW_LAYOUT].kind ? NEW_LAYOUT : OLD_LAYOUT;',
     'judge: if (n [[> => >=]] MOST_STEPS) {',
     'second_batch: for (size_t i = 0; i [[< => <=]] events_len; i++)',

@@ -2,8 +2,10 @@
  * The words that host/phrases.c and host/status.c have, held against the step:
  * the register that each A of a banked access names is the one that the step
  * reads and writes, an event is said to be bad where the step refuses it, in the
- * old layout where that does not know it too, a call to be disabled where the
- * step says so, and a return to go on where it does.
+ * old layout where that does not know it too but not where it has a virtual line
+ * alone, a call to be disabled where the step says so, and a return to go on where
+ * it does.  What host/record.h finds due for the virtual lines of the old layout
+ * is held against the checker.
  */
 #define _POSIX_C_SOURCE 200809L
 
@@ -181,8 +183,10 @@ static void try_sentences(void)
     expect_said(POMURICA_EVENT_DATA_ABORT, POMURICA_ABORT_EXTERNAL | POMURICA_ABORT_STAGE_2, 0,
                 "external Data Abort of stage 2");
     expect_said(POMURICA_EVENT_INTERRUPT_CHECK, 0, 0, "interrupt check, no line");
-    expect_said(POMURICA_EVENT_INTERRUPT_CHECK, 31, 0,
-                "interrupt check, lines SError and FIQ and IRQ and virtual FIQ and virtual IRQ");
+    expect_said(POMURICA_EVENT_INTERRUPT_CHECK, 7, 0, "interrupt check, lines SError and FIQ and IRQ");
+    expect_said_in_old(POMURICA_EVENT_INTERRUPT_CHECK, 31, 0,
+                       "interrupt check, lines SError and FIQ and IRQ and virtual FIQ and virtual IRQ");
+    expect_said_in_old(POMURICA_EVENT_INTERRUPT_CHECK, POMURICA_LINE_VIRTUAL_FIQ, 0, "interrupt check, lines virtual FIQ");
     expect_said(POMURICA_EVENT_BANKED_READ, 18, 0, "banked read of LR_svc");
     expect_said(POMURICA_EVENT_BANKED_READ, 62, 0, "banked read of SPSR_hyp");
     expect_said(POMURICA_EVENT_BANKED_READ, 7, 0, "banked read of no register (R 0 SYSm 0x07)");
@@ -210,7 +214,10 @@ static void try_bad_operands(void)
     expect_said(POMURICA_EVENT_DATA_ABORT, 3, 9, "external Data Abort of stage 2, B 9, which must be 0");
     expect_said(POMURICA_EVENT_HYP_TRAP, 1, 0, "Hyp Trap, A 1, which must be 0");
     expect_said(POMURICA_EVENT_MONITOR_TRAP, 0, 1, "Monitor Trap, B 1, which must be 0");
-    expect_said(POMURICA_EVENT_INTERRUPT_CHECK, 33, 0, "interrupt check, A 33, above 31");
+    expect_said(POMURICA_EVENT_INTERRUPT_CHECK, 8, 0, "interrupt check, A 8, above 7");
+    expect_said(POMURICA_EVENT_INTERRUPT_CHECK, 20, 0, "interrupt check, A 20, above 7");
+    expect_said(POMURICA_EVENT_INTERRUPT_CHECK, 33, 0, "interrupt check, A 33, above 7");
+    expect_said_in_old(POMURICA_EVENT_INTERRUPT_CHECK, 33, 0, "interrupt check, A 33, above 31");
     expect_said(POMURICA_EVENT_INTERRUPT_CHECK, 4, 9, "interrupt check, lines IRQ, B 9, which must be 0");
     expect_said(POMURICA_EVENT_BANKED_READ, 64, 0, "banked read, A 64, above 63");
     expect_said(POMURICA_EVENT_BANKED_READ, 18, 9, "banked read of LR_svc, B 9, which must be 0");
@@ -245,7 +252,19 @@ static bool is_due_bad(struct in_trace step)
     return pomurica_get_word(due.answer, POMURICA_ANSWER_NUMBER) == POMURICA_BAD_EVENT;
 }
 
-/* By the step from a good block of the mode; the old layout knows no debug abort and no place 44 besides. */
+/* The old layout knows no debug abort and no place 44, and it alone knows lines 8 and 16. */
+static bool is_bad_in_old(struct pomurica_event event, bool bad)
+{
+    if (event.code == POMURICA_EVENT_PREFETCH_ABORT && event.a == POMURICA_ABORT_DEBUG)
+        return true;
+    if (event.code == POMURICA_EVENT_NOTE && event.a == POMURICA_PLACE_HDCR)
+        return true;
+    if (event.code == POMURICA_EVENT_INTERRUPT_CHECK)
+        return event.a > 31 || event.b != 0;
+    return bad;
+}
+
+/* By the step from a good block of the mode. */
 static void try_event(uint32_t mode, struct pomurica_event event)
 {
     const struct in_trace step = step_of(event, mode, POMURICA_SCR_NS, 0);
@@ -254,8 +273,7 @@ static void try_event(uint32_t mode, struct pomurica_event event)
 
     fill_block(block, mode, POMURICA_SCR_NS);
     bad = pomurica_step(block, sizeof block, event.code, event.a, event.b, answer, sizeof answer) == POMURICA_BAD_EVENT;
-    bad_in_old = bad || (event.code == POMURICA_EVENT_PREFETCH_ABORT && event.a == POMURICA_ABORT_DEBUG) ||
-                 (event.code == POMURICA_EVENT_NOTE && event.a == POMURICA_PLACE_HDCR);
+    bad_in_old = is_bad_in_old(event, bad);
     expect_bad(mode, event, bad, said_from(mode, event));
     expect_bad(mode, event, bad_in_old, said_in_old(mode, event));
     check(is_due_bad(step) == bad && is_due_bad(in_old_trace(step)) == bad_in_old,
@@ -265,7 +283,7 @@ static void try_event(uint32_t mode, struct pomurica_event event)
 static void try_events(uint32_t mode)
 {
     static const uint32_t WORDS[] = {
-        0, 1, 2, 3, 4, 5, 6, 7, 8, 9, 31, 32, 33, 43, 44, 45, 63, 64, 256, 0x80000000, 0xFFFFFFFF
+        0, 1, 2, 3, 4, 5, 6, 7, 8, 9, 15, 16, 24, 31, 32, 33, 40, 43, 44, 45, 63, 64, 256, 0x80000000, 0xFFFFFFFF
     };
 
     for (uint32_t code = 0; code <= POMURICA_EVENT_RETURN + 2; code++)
@@ -363,6 +381,92 @@ static void try_new_in_old(void)
         expect_outcome(&in_old, POMURICA_BAD_EVENT, 0, "refused with 4 BAD_EVENT (not known in the old layout)");
         expect_outcome(&step, POMURICA_BAD_EVENT, 0, "refused with 4 BAD_EVENT");
     }
+}
+
+/* What only the old layout knows, in both; a line beside a bit that is none's in either is no reason. */
+static void try_old_in_new(void)
+{
+    static const uint32_t LINES[] = { 8, 16, 24, 31 };
+    const struct pomurica_event beyond = { POMURICA_EVENT_INTERRUPT_CHECK, 32 + 8, 0 };
+    const struct in_trace none = step_of(beyond, POMURICA_MODE_SUPERVISOR, POMURICA_SCR_NS, 0);
+
+    for (size_t i = 0; i < COUNT_OF(LINES); i++) {
+        const struct pomurica_event event = { POMURICA_EVENT_INTERRUPT_CHECK, LINES[i], 0 };
+        const struct in_trace step = step_of(event, POMURICA_MODE_SUPERVISOR, POMURICA_SCR_NS, 0);
+        const struct in_trace in_old = in_old_trace(step);
+
+        expect_outcome(&step, POMURICA_BAD_EVENT, 0,
+                       "refused with 4 BAD_EVENT (a virtual line: in the new layout HCR.VF and VI signal a guest)");
+        expect_outcome(&in_old, POMURICA_BAD_EVENT, 0, "refused with 4 BAD_EVENT");
+        expect_outcome(&in_old, POMURICA_DONE, 0x61218, "virtual IRQ: enters IRQ mode at 0x18");
+    }
+    expect_outcome(&none, POMURICA_BAD_EVENT, 0, "refused with 4 BAD_EVENT");
+}
+
+/* What the virtual lines of the old layout go by, in every combination: NS, TGE, the masks, and from FMO to VA of HCR. */
+enum { CHECK_NS = 1, CHECK_TGE = 2, CHECK_MASKED = 4, CHECK_HCR = 8, CHECK_COMBINATIONS = CHECK_HCR << 6 };
+
+static struct in_trace old_check_of(uint32_t mode, uint32_t lines, unsigned set)
+{
+    const uint32_t hcr = set / CHECK_HCR * POMURICA_HCR_FMO | (set & CHECK_TGE ? POMURICA_HCR_TGE : 0);
+    const uint32_t masks = set & CHECK_MASKED ? POMURICA_CPSR_A | POMURICA_CPSR_I | POMURICA_CPSR_F : 0;
+    struct in_trace step = step_of((struct pomurica_event){ POMURICA_EVENT_INTERRUPT_CHECK, lines, 0 }, mode,
+                                   set & CHECK_NS ? POMURICA_SCR_NS : 0, hcr);
+
+    pomurica_put_word(step.bytes, POMURICA_PLACE_CPSR, mode | masks);
+    return in_old_trace(step);
+}
+
+/* Whether the checker accepts, in an old trace of it alone, a Step that shows what is found due. */
+static bool is_accepted_as_due(const struct in_trace *step, const struct due *due)
+{
+    uint8_t trace[POMURICA_OLD_START_SIZE + POMURICA_OLD_STEP_SIZE + POMURICA_END_SIZE];
+    uint8_t *const in_it = trace + POMURICA_OLD_START_SIZE, *const end = in_it + POMURICA_OLD_STEP_SIZE;
+    uint8_t report[POMURICA_REPORT_SIZE];
+
+    pomurica_put_word(trace, POMURICA_RECORD_HEAD, POMURICA_OLD_START_HEAD);
+    pomurica_put_word(trace, POMURICA_RECORD_COUNT, 1);
+    memcpy(trace + 4 * POMURICA_START_BLOCK, block_before(step_in(step)), POMURICA_OLD_BLOCK_SIZE);
+    memcpy(in_it, step_in(step), 4 * POMURICA_STEP_NUMBER);
+    memcpy(in_it + 4 * POMURICA_STEP_NUMBER, due->answer, sizeof due->answer);
+    memcpy(in_it + 4 * POMURICA_STEP_BLOCK, due->block, POMURICA_OLD_BLOCK_SIZE);
+    pomurica_put_word(end, POMURICA_RECORD_HEAD, POMURICA_END_HEAD);
+    pomurica_put_word(end, POMURICA_RECORD_COUNT, 1);
+    return pomurica_check(trace, sizeof trace, report, sizeof report) == POMURICA_DONE;
+}
+
+/* One check; counts it by the virtual interrupt that it took, if that came by its line and not by HCR. */
+static void try_old_check(uint32_t mode, uint32_t lines, unsigned set, unsigned *by_line)
+{
+    const struct in_trace step = old_check_of(mode, lines, set);
+    const uint32_t hcr = pomurica_get_word(block_before(step_in(&step)), POMURICA_PLACE_HCR);
+    struct due due;
+    uint32_t which;
+
+    find_due(step_in(&step), &due);
+    check(is_accepted_as_due(&step, &due), "mode %x, lines %u, %x: not what the checker has", (unsigned)mode,
+          (unsigned)lines, set);
+    which = pomurica_get_word(due.answer, POMURICA_ANSWER_VALUE) >> 16;
+    by_line[which] += which == POMURICA_WHICH_VIRTUAL_FIQ && (hcr & POMURICA_HCR_VF) == 0;
+    by_line[which] += which == POMURICA_WHICH_VIRTUAL_IRQ && (hcr & POMURICA_HCR_VI) == 0;
+}
+
+/* Every check of the old layout, from every mode, with every combination of the bits. */
+static void try_old_checks(void)
+{
+    unsigned by_line[POMURICA_WHICH_VIRTUAL_IRQ + 1] = { 0 };
+
+    for (size_t i = 0; i < COUNT_OF(MODES); i++)
+        for (uint32_t lines = 0; lines <= POMURICA_OLD_ALL_LINES; lines++)
+            for (unsigned set = 0; set < CHECK_COMBINATIONS; set++)
+                try_old_check(MODES[i], lines, set, by_line);
+    /*
+     * With NS 1, TGE 0 and nothing masked, from User and the six others that are no Hyp and no Monitor; without a line of a
+     * physical one, and without AMO and VA together, so in 3 of 4.  FIQ: FMO 1 and VF 0, with lines 8 and 24, IMO and VI
+     * any.  IRQ: IMO 1 and VI 0, with line 16 without FMO and VF together, with 24 without FMO.
+     */
+    check(by_line[POMURICA_WHICH_VIRTUAL_FIQ] == 7 * 3 * 2 * 4, "%u virtual FIQs by line", by_line[POMURICA_WHICH_VIRTUAL_FIQ]);
+    check(by_line[POMURICA_WHICH_VIRTUAL_IRQ] == 7 * 3 * (3 + 2), "%u virtual IRQs by line", by_line[POMURICA_WHICH_VIRTUAL_IRQ]);
 }
 
 /* The bits that the words of a disabled call go by, in every combination, and that of the trap which goes before SCD. */
@@ -607,6 +711,9 @@ int main(void)
     group("what is said to come of an event");
     try_outcomes();
     try_new_in_old();
+    try_old_in_new();
+    group("what is found due for a check of the old layout, with virtual lines too, is what the checker accepts");
+    try_old_checks();
     group("a call is said to be disabled, and why, exactly where the step answers DISABLED");
     try_calls();
     try_unjudged();

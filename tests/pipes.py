@@ -24,9 +24,9 @@ run, expect, expect_run = runs.run, runs.expect, runs.expect_run
 os.environ['ASAN_OPTIONS'] = 'detect_leaks=0'  # looking takes some 4 s a run on Arm; try_leaks does
 
 A_WHILE = 0.3  # seconds in which what must not come would have come
-HONEST, HONEST_OLD, STALE, MIXED, TAKEN_IN_OLD = (
+HONEST, HONEST_OLD, STALE, MIXED, TAKEN_IN_OLD, LINE_TAKEN = (
     read(os.path.join(SAMPLES, f'{name}.trace')) for name in
-    ('honest', 'honest-old', 'stale-spsr', 'mixed-layouts', 'debug-taken-in-old'))
+    ('honest', 'honest-old', 'stale-spsr', 'mixed-layouts', 'debug-taken-in-old', 'virtual-line-taken'))
 HONEST_LINE = f'-: {accepted(HONEST)}\n'.encode()
 STALE_LINE = b'-: refused 11 WRONG_STEP at byte 1412 after 6 Steps\n'
 STALE_KNOWN = b'-: 11 WRONG_STEP known after 1616 bytes\n'
@@ -45,6 +45,7 @@ FAULTY = {
     'an old Start that counts too much': (start_record(LONGEST + 1, bytes(OLD.block_size), OLD) + end_record(0), 10,
                                           'BAD_COUNT', 0, 0),
     'a wrong Step of the old layout': (TAKEN_IN_OLD, 11, 'WRONG_STEP', 384, 1),
+    'a virtual line taken in the new layout': (LINE_TAKEN, 11, 'WRONG_STEP', 392, 1),
     'two traces of the old layout': (HONEST_OLD + HONEST_OLD, 12, 'TRAILING', len(HONEST_OLD), 9),
     'no End': (SHORTEST[:START_SIZE] + bytes(END_SIZE), 9, 'BAD_RECORD', START_SIZE, 0),
     'a Start that counts too much': (start_record(LONGEST + 1) + end_record(0), 10, 'BAD_COUNT', 0, 0),

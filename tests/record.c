@@ -29,6 +29,7 @@ enum {
 static const struct pomurica_event MIXED[] = {
     { POMURICA_EVENT_INTERRUPT_CHECK, POMURICA_LINE_IRQ, 0 },             /* enters IRQ mode */
     { POMURICA_EVENT_INTERRUPT_CHECK, POMURICA_LINE_IRQ, 0 },             /* masked by that entry */
+    { POMURICA_EVENT_INTERRUPT_CHECK, POMURICA_LINE_VIRTUAL_FIQ, 0 },     /* BAD_EVENT */
     { POMURICA_EVENT_SVC, 1, 0 },                                         /* BAD_EVENT */
     { POMURICA_EVENT_RETURN + 1, 0, 0 },                                  /* BAD_EVENT */
     { POMURICA_EVENT_NOTE, POMURICA_PLACE_PC, 0x9000 },
@@ -40,6 +41,12 @@ static const struct pomurica_event MIXED[] = {
     { POMURICA_EVENT_RETURN, 3, 0 },                                      /* BAD_EVENT */
     { POMURICA_EVENT_BANKED_WRITE, 17, 0x12345678 },                      /* SP_irq */
     { POMURICA_EVENT_BANKED_READ, 17, 0 },
+    { POMURICA_EVENT_NOTE, POMURICA_PLACE_CPSR, POMURICA_MODE_SUPERVISOR },
+    { POMURICA_EVENT_NOTE, POMURICA_PLACE_HCR, POMURICA_HCR_IMO | POMURICA_HCR_VI },
+    { POMURICA_EVENT_INTERRUPT_CHECK, POMURICA_LINE_VIRTUAL_IRQ, 0 },     /* BAD_EVENT */
+    { POMURICA_EVENT_INTERRUPT_CHECK, 0, 0 },                             /* virtual IRQ: enters IRQ mode */
+    { POMURICA_EVENT_NOTE, POMURICA_PLACE_HCR, 0 },
+    { POMURICA_EVENT_RETURN, 4, 0 },                                      /* and back to Supervisor */
     { POMURICA_EVENT_HVC, 0, 0 },                                         /* DISABLED */
     { POMURICA_EVENT_NOTE, POMURICA_PLACE_SCR, POMURICA_SCR_NS | POMURICA_SCR_HCE | POMURICA_SCR_SCD },
     { POMURICA_EVENT_SMC, 0, 0 },                                         /* DISABLED */
@@ -237,7 +244,7 @@ static const uint8_t *step_of(const struct recording *asked, size_t i)
 static void do_mixed(void)
 {
     static const uint32_t NUMBERS[] = {
-        0, 0, 4, 4, 0, 2, 3, 0, 0, 0, 4, 0, 0, 16, 0, 16, 0, 5, 6, 17, 7, 0, 4, 4, 0, 0, 0, 0, 0
+        0, 0, 4, 4, 4, 0, 2, 3, 0, 0, 0, 4, 0, 0, 0, 0, 4, 0, 0, 0, 16, 0, 16, 0, 5, 6, 17, 7, 0, 4, 4, 0, 0, 0, 0, 0
     };
     const struct recording asked = recording_of(COUNT(MIXED), 1, 1);
 

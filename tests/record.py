@@ -414,6 +414,12 @@ def try_check():
            [line.rpartition('; ')[2] for line in disabled if ': note: ' not in line] ==
            ['refused with 16 DISABLED (HVC is disabled: SCR.HCE is 0)', 'enters Undefined mode at 0x04',
             'refused with 16 DISABLED (SMC is disabled: SCR.SCD is 1)', 'enters Undefined mode at 0x04'], disabled)
+    checks = [run('--check', os.path.join(SAMPLES, name))[1].decode().splitlines()[1] for name in
+              ('virtual-by-hcr.script', 'virtual-line.script')]
+    expect('a virtual interrupt by HCR is taken, and by its line refused with the reason',
+           [line.rpartition('; ')[2] for line in checks] ==
+           ['virtual IRQ: enters IRQ mode at 0x18',
+            'refused with 4 BAD_EVENT (a virtual line: in the new layout HCR.VF and VI signal a guest)'], checks)
     returns = run('--check', os.path.join(SAMPLES, 'svc-and-return.script'))[1].decode().splitlines()
     expect('returns have what is taken off, and where they go on',
            [line.split(': ', 2)[2] for line in returns if ': return: ' in line] ==

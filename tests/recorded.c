@@ -1,12 +1,16 @@
 /*
  * Holds the step against single steps recorded on an emulated core that
  * nobody here wrote.  The header of the file of rows explains its columns.  Its
- * blocks are of the old layout, and get a word of 0 behind them, HDCR.
+ * blocks are of the old layout, and get a word of 0 behind them, HDCR; its
+ * events too, among them checks with virtual lines, which a step has by HCR.VF
+ * and HCR.VI.  So each row also has to be accepted as a Step of an old trace.
  *
  *     recorded FILE
  */
 #include "group.h"
 #include "pomurica.h"
+
+#include "../host/record.h"
 
 #include <ctype.h>
 #include <errno.h>
@@ -16,13 +20,13 @@
 #include <string.h>
 
 /* The file: nine columns, in lines well below 2,048 characters. */
-enum layout {
+enum {
     COLUMNS = 9,
     LINE_SIZE = 2048
 };
 
 /* The file: what the core did. */
-enum outcome {
+enum core_outcome {
     ENTERED,
     TOOK_NOTHING,
     READ,
@@ -38,7 +42,7 @@ static const char *const OUTCOME[OUTCOMES] = { "entry", "nothing", "read", "writ
 struct row {
     unsigned line;
     uint32_t code, a, b;
-    enum outcome outcome;
+    enum core_outcome outcome;
     uint32_t value;
     bool unseen[POMURICA_PLACES];
     uint32_t unread_cpsr;
@@ -98,11 +102,11 @@ static bool parse_unseen(char *text, bool *unseen)
 }
 
 /* The file: the outcome by its name. */
-static bool parse_outcome(const char *text, enum outcome *outcome)
+static bool parse_outcome(const char *text, enum core_outcome *outcome)
 {
     for (uint32_t i = 0; i < OUTCOMES; i++) {
         if (strcmp(text, OUTCOME[i]) == 0) {
-            *outcome = (enum outcome)i;
+            *outcome = (enum core_outcome)i;
             return true;
         }
     }
@@ -145,7 +149,7 @@ static bool parse_row(char *line, struct row *row)
 }
 
 /* Answer numbers: "The verdict of a done step", told by the event and its value. */
-static enum outcome verdict_of(uint32_t code, uint32_t value)
+static enum core_outcome verdict_of(uint32_t code, uint32_t value)
 {
     if (code == POMURICA_EVENT_BANKED_READ)
         return READ;
@@ -158,21 +162,76 @@ static enum outcome verdict_of(uint32_t code, uint32_t value)
 
 /* A step from the block before a row's event, and what came of it. */
 struct step {
-    uint8_t block[POMURICA_BLOCK_SIZE], answer[POMURICA_ANSWER_SIZE];
+    uint8_t block[POMURICA_BLOCK_SIZE];
     uint32_t number, value;
 };
 
-static struct step step_from(const struct row *row, uint32_t code, uint32_t a, uint32_t b)
+/* Answer numbers: what a direct step makes of the event. */
+static struct step step_directly(const struct row *row, uint32_t code, uint32_t a, uint32_t b)
 {
+    uint8_t answer[POMURICA_ANSWER_SIZE];
     struct step step;
 
     memcpy(step.block, row->before, sizeof step.block);
-    step.number = pomurica_step(step.block, sizeof step.block, code, a, b,
-                                step.answer, sizeof step.answer);
-    step.value = pomurica_get_word(step.answer, 1);
-    check(pomurica_get_word(step.answer, 0) == step.number,
+    step.number = pomurica_step(step.block, sizeof step.block, code, a, b, answer, sizeof answer);
+    step.value = pomurica_get_word(answer, POMURICA_ANSWER_VALUE);
+    check(pomurica_get_word(answer, POMURICA_ANSWER_NUMBER) == step.number,
           "line %u: another number written than returned", row->line);
     return step;
+}
+
+/* An old trace of one Step. */
+struct old_trace {
+    uint8_t start[POMURICA_OLD_START_SIZE], step[POMURICA_OLD_STEP_SIZE], end[POMURICA_END_SIZE];
+};
+
+/* The trace: the row's event in an old one, with what host/record.h finds due; the checker has to accept it. */
+static struct step step_in_old(const struct row *row, uint32_t code, uint32_t a, uint32_t b)
+{
+    uint8_t report[POMURICA_REPORT_SIZE];
+    struct old_trace trace;
+    struct step step;
+    struct due due;
+
+    pomurica_put_word(trace.start, POMURICA_RECORD_HEAD, POMURICA_OLD_START_HEAD);
+    pomurica_put_word(trace.start, POMURICA_RECORD_COUNT, 1);
+    memcpy(trace.start + 4 * POMURICA_START_BLOCK, row->before, POMURICA_OLD_BLOCK_SIZE);
+    pomurica_put_word(trace.step, POMURICA_RECORD_HEAD, POMURICA_OLD_STEP_HEAD);
+    pomurica_put_word(trace.step, POMURICA_STEP_CODE, code);
+    pomurica_put_word(trace.step, POMURICA_STEP_A, a);
+    pomurica_put_word(trace.step, POMURICA_STEP_B, b);
+    find_due(trace.step, &due);
+    memcpy(trace.step + 4 * POMURICA_STEP_NUMBER, due.answer, sizeof due.answer);
+    memcpy(trace.step + 4 * POMURICA_STEP_BLOCK, due.block, POMURICA_OLD_BLOCK_SIZE);
+    pomurica_put_word(trace.end, POMURICA_RECORD_HEAD, POMURICA_END_HEAD);
+    pomurica_put_word(trace.end, POMURICA_RECORD_COUNT, 1);
+    check(pomurica_check((const uint8_t *)&trace, sizeof trace, report, sizeof report) == POMURICA_DONE,
+          "line %u: not accepted in an old trace", row->line);
+    memcpy(step.block, due.block, sizeof step.block);
+    step.number = pomurica_get_word(due.answer, POMURICA_ANSWER_NUMBER);
+    step.value = pomurica_get_word(due.answer, POMURICA_ANSWER_VALUE);
+    return step;
+}
+
+/* Whether both came to the same. */
+static bool is_same(const struct step *one, const struct step *other)
+{
+    return one->number == other->number && one->value == other->value &&
+           memcmp(one->block, other->block, sizeof one->block) == 0;
+}
+
+/* No. 13: a direct step refuses a virtual line, and leaves the block; any other event is the same in an old trace. */
+static struct step step_from(const struct row *row, uint32_t code, uint32_t a, uint32_t b)
+{
+    const struct step directly = step_directly(row, code, a, b), in_old = step_in_old(row, code, a, b);
+
+    if (virtual_lines(code, a) == 0)
+        check(is_same(&directly, &in_old), "line %u: another step in an old trace", row->line);
+    else
+        check(directly.number == POMURICA_BAD_EVENT && directly.value == 0 &&
+                  memcmp(directly.block, row->before, sizeof directly.block) == 0,
+              "line %u: a virtual line, answered %u", row->line, directly.number);
+    return in_old;
 }
 
 /*
@@ -231,12 +290,13 @@ static void check_row(const struct row *row)
     }
 }
 
-/* How many rows are of calls. */
+/* How many rows are of calls, and how many of checks with a virtual line. */
 #define CALLS 36
+#define WITH_VIRTUAL_LINES 324
 
 static void check_rows(FILE *file)
 {
-    unsigned rows[OUTCOMES] = { 0 }, calls = 0;
+    unsigned rows[OUTCOMES] = { 0 }, calls = 0, with_virtual_lines = 0;
     char line[LINE_SIZE];
     struct row row;
 
@@ -249,6 +309,7 @@ static void check_rows(FILE *file)
         rows[row.outcome]++;
         calls += row.code == POMURICA_EVENT_SMC || row.code == POMURICA_EVENT_HVC;
         check(!is_disabled(&row), "line %u: a disabled call", row.line);
+        with_virtual_lines += virtual_lines(row.code, row.a) != 0;
     }
     check(!ferror(file), "%s", strerror(errno));
     for (uint32_t i = 0; i < OUTCOMES; i++) {
@@ -257,6 +318,9 @@ static void check_rows(FILE *file)
     }
     printf("  %-8s %4u rows, none with SCD 1 or HCE 0\n", "calls", calls);
     check(calls == CALLS, "%u rows of calls, not %u", calls, CALLS);
+    printf("  %-8s %4u rows of checks with a virtual line\n", "lines", with_virtual_lines);
+    check(with_virtual_lines == WITH_VIRTUAL_LINES, "%u rows with a virtual line, not %u", with_virtual_lines,
+          WITH_VIRTUAL_LINES);
 }
 
 int main(int argc, char **argv)

@@ -18,6 +18,7 @@ ANSWER = f'{NUMBER} ' + any_of(*'DONE BAD_SIZE BAD_MODE BAD_STATE BAD_EVENT NOT_
 REASONED = any_of(r'16 DISABLED \(HVC is disabled: SCR\.HCE is 0\)', r'16 DISABLED \(SMC is disabled: SCR\.SCD is 1\)',
                   r'3 BAD_STATE \(bits 24-21 of the saved word are not 0\)',
                   r'4 BAD_EVENT \(not known in the old layout\)',
+                  r'4 BAD_EVENT \(a virtual line: in the new layout HCR\.VF and VI signal a guest\)',
                   r'17 OWN_REGISTER \(its own register, reached by another instruction\)',
                   r'7 NO_RIGHT \((no banked register is accessible from User|not accessible from this mode and state)\)')
 REGISTER = any_of(*REGISTERS)

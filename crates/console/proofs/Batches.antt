@@ -17,10 +17,12 @@ use Rattle.banked.specs.Cell.{cell}
 use Rattle.banked.specs.Right.{denied, right}
 use Rattle.rules.specs.declared.event.Event.{Event}
 use Rattle.rules.specs.declared.verdict.Answer.{Answer}
+use Rattle.rules.specs.Direct.{directAnswer, directAfter, directRun, directAnswers}
 use Rattle.rules.specs.Event.{BANKED-READ, NOTE, badEvent}
+use Rattle.rules.specs.Known.{seen, direct}
 use Rattle.rules.specs.Refusal.{refusal}
 use Rattle.rules.specs.Step.{doneAction, action, answer, after}
-use Rattle.rules.specs.Run.{runBy, answersBy, run, answers}
+use Rattle.rules.specs.Run.{runBy, answersBy}
 use Rattle.rules.specs.Verdict.{value, refusedWith}
 use Rattle.machine.proofs.Cases.{block}
 use Rattle.machine.proofs.Theorems.{refused-leaves}
@@ -30,15 +32,16 @@ use Rattle.console.specs.Theorems.{BatchTheorems}
 
 -- ---- one list of events behind another
 
-pub run-append : (es fs : List Event) (b : List ℕ) → run b (es ++ fs) ≡ run (run b es) fs
+pub run-append : (es fs : List Event) (b : List ℕ) → directRun b (es ++ fs) ≡ directRun (directRun b es) fs
 unfolding runBy
 run-append [] fs b = refl
-run-append (e ∷ es) fs b = run-append es fs (after b e)
+run-append (e ∷ es) fs b = run-append es fs (directAfter b e)
 
-pub answers-append : (es fs : List Event) (b : List ℕ) → answers b (es ++ fs) ≡ answers b es ++ answers (run b es) fs
+pub answers-append : (es fs : List Event) (b : List ℕ)
+    → directAnswers b (es ++ fs) ≡ directAnswers b es ++ directAnswers (directRun b es) fs
 unfolding runBy answersBy
 answers-append [] fs b = refl
-answers-append (e ∷ es) fs b = ap (λ (xs : List Answer). answer b e ∷ xs) (answers-append es fs (after b e))
+answers-append (e ∷ es) fs b = ap (λ (xs : List Answer). directAnswer b e ∷ xs) (answers-append es fs (directAfter b e))
 
 -- ---- a batch that answers DONE
 
@@ -57,11 +60,11 @@ module _ {es : List Event} {room : List Answer} {b : List ℕ} {told : List Answ
   both : suits es room b ≡ true
   both = simp (eq-eqb (length es) (length room) (lengths .0), eq-eqb (length b) BLOCK-SIZE (lengths .1))
 
-  told-is : told ≡ answers b es
-  told-is = h .answered ∙ ap (λ (t : Bool). if t then answers b es else room) both
+  told-is : told ≡ directAnswers b es
+  told-is = h .answered ∙ ap (λ (t : Bool). if t then directAnswers b es else room) both
 
-  left-is : c ≡ run b es
-  left-is = h .block ∙ ap (λ (t : Bool). if t then run b es else b) both
+  left-is : c ≡ directRun b es
+  left-is = h .block ∙ ap (λ (t : Bool). if t then directRun b es else b) both
 
 one-after-another : (es fs : List Event) (room₁ room₂ told₁ told₂ : List Answer) (b c d : List ℕ)
     → Batched es room₁ b DONE told₁ c
@@ -72,30 +75,30 @@ one-after-another es fs room₁ room₂ told₁ told₂ b c d h k =
     omega (arith, length-append es fs, length-append room₁ room₂, lengths h .0, lengths k .0) in
     let both : suits (es ++ fs) (room₁ ++ room₂) b ≡ true =
     simp (eq-eqb (length (es ++ fs)) (length (room₁ ++ room₂)) size, eq-eqb (length b) BLOCK-SIZE (lengths h .1)) in
-    let told = (λ i. told-is h i ++ (told-is k ∙ ap (λ (x : List ℕ). answers x fs) (left-is h)) i) ∙ sym (answers-append es fs b) in
-    let left = left-is k ∙ ap (λ (x : List ℕ). run x fs) (left-is h) ∙ sym (run-append es fs b) in
+    let told = (λ i. told-is h i ++ (told-is k ∙ ap (λ (x : List ℕ). directAnswers x fs) (left-is h)) i) ∙ sym (answers-append es fs b) in
+    let left = left-is k ∙ ap (λ (x : List ℕ). directRun x fs) (left-is h) ∙ sym (run-append es fs b) in
     record {
       number = ap (λ (t : Bool). if t then DONE else BAD-SIZE) (sym both);
-      answered = told ∙ ap (λ (t : Bool). if t then answers b (es ++ fs) else room₁ ++ room₂) (sym both);
-      block = left ∙ ap (λ (t : Bool). if t then run b (es ++ fs) else b) (sym both);
+      answered = told ∙ ap (λ (t : Bool). if t then directAnswers b (es ++ fs) else room₁ ++ room₂) (sym both);
+      block = left ∙ ap (λ (t : Bool). if t then directRun b (es ++ fs) else b) (sym both);
     }
 
 -- ---- a refused event in the middle
 
-module _ (es fs : List Event) (e : Event) (b : List ℕ) (n : refusal (run b es) e ≡ DONE → ⊥) where
-  refused-changes-nothing : run b (es ++ (e ∷ fs)) ≡ run b (es ++ fs)
+module _ (es fs : List Event) (e : Event) (b : List ℕ) (n : refusal (directRun b es) (direct e) ≡ DONE → ⊥) where
+  refused-changes-nothing : directRun b (es ++ (e ∷ fs)) ≡ directRun b (es ++ fs)
   unfolding runBy
   refused-changes-nothing =
       run-append es (e ∷ fs) b
-      ∙ ap (λ (c : List ℕ). run c fs) (refused-leaves (run b es) e n .1)
+      ∙ ap (λ (c : List ℕ). directRun c fs) (refused-leaves (directRun b es) (direct e) n .1)
       ∙ sym (run-append es fs b)
 
-  refused-has-its-number : answers b (es ++ (e ∷ fs))
-      ≡ answers b es ++ (refusedWith (refusal (run b es) e) ∷ answers (run b es) fs)
+  refused-has-its-number : let c = directRun b es in
+      directAnswers b (es ++ (e ∷ fs)) ≡ directAnswers b es ++ (refusedWith (refusal c (direct e)) ∷ directAnswers c fs)
   unfolding answersBy
   refused-has-its-number =
-      let here = refused-leaves (run b es) e n in
-      answers-append es (e ∷ fs) b ∙ (λ i. answers b es ++ (here .0 i ∷ answers (here .1 i) fs))
+      let here = refused-leaves (directRun b es) (direct e) n in
+      answers-append es (e ∷ fs) b ∙ (λ i. directAnswers b es ++ (here .0 i ∷ directAnswers (here .1 i) fs))
 
 -- ---- three wrong batches, on a block in Secure Supervisor mode
 
@@ -125,15 +128,15 @@ blank = record { number = 7; value = 7 }
 -- what they answer, and what the wrong ones would
 record Computed : Type 0 where
   size : length start ≡ BLOCK-SIZE
-  refused : refusal start none ≡ 4
-  first : numberAt (answers start (none ∷ noted ∷ [])) 0 ≡ 4
-  second : numberAt (answers start (none ∷ noted ∷ [])) 1 ≡ 0
-  turned : numberAt (reversed (answers start (none ∷ noted ∷ []))) 0 ≡ 0
-  noted-then-read : valueAt (answers start (noted ∷ reads ∷ [])) 1 ≡ 5
+  refused : refusal start (direct none) ≡ 4
+  first : numberAt (directAnswers start (none ∷ noted ∷ [])) 0 ≡ 4
+  second : numberAt (directAnswers start (none ∷ noted ∷ [])) 1 ≡ 0
+  turned : numberAt (reversed (directAnswers start (none ∷ noted ∷ []))) 0 ≡ 0
+  noted-then-read : valueAt (directAnswers start (noted ∷ reads ∷ [])) 1 ≡ 5
   read-at-first : valueAt (onTheFirst start (noted ∷ reads ∷ [])) 1 ≡ 0
 
 computed : Computed
-unfolding spelt put known el1 guest spsrPlace lrPlace good cell denied right badEvent refusal doneAction action answer after value
+unfolding seen spelt put known el1 guest spsrPlace lrPlace good cell denied right badEvent refusal doneAction action answer after value
     runBy answersBy
 computed =
     record {
@@ -158,7 +161,7 @@ module _ (f : Batcher) (m : Meets f) where
 
   not-stopping : Stops f → ⊥
   not-stopping r =
-      let refused : (refusal start none ≡ DONE → ⊥) = λ z. omega (arith, computed .refused) in
+      let refused : (refusal start (direct none) ≡ DONE → ⊥) = λ z. omega (arith, computed .refused) in
       let same = sym (m (none ∷ noted ∷ []) room start refl (computed .size))
       ∙ r none (noted ∷ []) blank (blank ∷ []) start refl (computed .size) refused in
       omega (arith, ap (λ (xs : List Answer). numberAt xs 1) same, computed .second)

@@ -1,5 +1,5 @@
 -- A batch, event by event: what is done and what is left make the whole. So the block after all events, and the list of their
--- answers, are those of single steps done in order.
+-- answers, are those of single direct steps done in order.
 use mathlib.Core.Path.{_≡_, refl, sym, ap, _∙_}
 use mathlib.Core.List.{List, [], _∷_, _++_, append-nil}
 use Prim.Native.Nat.{ℕ, suc, _+_, _<_, _≤_}
@@ -12,8 +12,9 @@ use Rattle.state.specs.Number.{DONE, BAD-SIZE}
 use Rattle.state.specs.Place.{BLOCK-SIZE}
 use Rattle.rules.specs.declared.event.Event.{Event}
 use Rattle.rules.specs.declared.verdict.Answer.{Answer}
-use Rattle.rules.specs.Step.{answer, after}
-use Rattle.rules.specs.Run.{runBy, answersBy, run, answers}
+use Rattle.rules.specs.Direct.{directAnswer, directAfter, directRun, directAnswers}
+use Rattle.rules.specs.Known.{direct}
+use Rattle.rules.specs.Run.{runBy, answersBy}
 use Rattle.machine.proofs.Laws.{length-after}
 use Rattle.console.specs.Batch.{Batched}
 
@@ -38,8 +39,8 @@ pub record Reached (es : List Event) (b₀ : List ℕ) (room : List Answer) (b :
   pub same : length room ≡ length es
   pub size : length b ≡ BLOCK-SIZE
   pub few : i ≤ length es
-  pub block : run b (drop i es) ≡ run b₀ es
-  pub answered : take i room ++ answers b (drop i es) ≡ answers b₀ es
+  pub block : directRun b (drop i es) ≡ directRun b₀ es
+  pub answered : take i room ++ directAnswers b (drop i es) ≡ directAnswers b₀ es
 
 module _ (es : List Event) (room₀ : List Answer) (b₀ : List ℕ) (same : length es ≡ length room₀)
     (size : length b₀ ≡ BLOCK-SIZE) where
@@ -48,28 +49,28 @@ module _ (es : List Event) (room₀ : List Answer) (b₀ : List ℕ) (same : len
 
   module _ (room : List Answer) (b : List ℕ) (i : ℕ) (h : Reached es b₀ room b i) where
     -- one event more: its answer is put at its place, and the block is the one after it
-    next : (d : Event) (x : Answer) (c : List ℕ) → i < length es → x ≡ answer b (getD es i d) → c ≡ after b (getD es i d)
+    next : (d : Event) (x : Answer) (c : List ℕ) → i < length es → x ≡ directAnswer b (getD es i d) → c ≡ directAfter b (getD es i d)
         → Reached es b₀ (set room i x) c (suc i)
     unfolding runBy answersBy
     next d x c l p q =
         let e = getD es i d in
         let rest = drop (suc i) es in
         let now : drop i es ≡ e ∷ rest = drop-cons es i d l in
-        let front : take (suc i) (set room i x) ≡ take i room ++ (answer b e ∷ []) =
+        let front : take (suc i) (set room i x) ≡ take i room ++ (directAnswer b e ∷ []) =
         take-suc-set room i x (omega (arith, h .same)) ∙ ap (λ (y : Answer). take i room ++ (y ∷ [])) p in
         record {
           same = length-set room i x ∙ h .same;
-          size = ap length q ∙ length-after b e ∙ h .size;
+          size = ap length q ∙ length-after b (direct e) ∙ h .size;
           few = l;
-          block = ap (λ (k : List ℕ). run k rest) q ∙ sym (ap (run b) now) ∙ h .block;
-          answered = (λ j. front j ++ answers (q j) rest)
-              ∙ append-snoc (take i room) (answer b e) (answers (after b e) rest)
-              ∙ sym (ap (λ (fs : List Event). take i room ++ answers b fs) now)
+          block = ap (λ (k : List ℕ). directRun k rest) q ∙ sym (ap (directRun b) now) ∙ h .block;
+          answered = (λ j. front j ++ directAnswers (q j) rest)
+              ∙ append-snoc (take i room) (directAnswer b e) (directAnswers (directAfter b e) rest)
+              ∙ sym (ap (λ (fs : List Event). take i room ++ directAnswers b fs) now)
               ∙ h .answered;
         }
 
-    pub reached-next : (d : Event) (x : Answer) (c : List ℕ) → i < length es → x ≡ answer b (getD es i d)
-        → c ≡ after b (getD es i d)
+    pub reached-next : (d : Event) (x : Answer) (c : List ℕ) → i < length es → x ≡ directAnswer b (getD es i d)
+        → c ≡ directAfter b (getD es i d)
         → Reached es b₀ (set room i x) c (i + 1)
     reached-next d x c l p q = rw (add-one i) (next d x c l p q)
 
@@ -79,9 +80,9 @@ module _ (es : List Event) (room₀ : List Answer) (b₀ : List ℕ) (same : len
         let t = eq-eqb (length es) (length room₀) same in
         let u = eq-eqb (length b₀) BLOCK-SIZE size in
         let none : drop i es ≡ [] = drop-of-length-le es l in
-        let left : b ≡ run b₀ es = sym (ap (run b) none) ∙ h .block in
-        let told : room ≡ answers b₀ es = sym (take-all i room (omega (arith, h .same)))
+        let left : b ≡ directRun b₀ es = sym (ap (directRun b) none) ∙ h .block in
+        let told : room ≡ directAnswers b₀ es = sym (take-all i room (omega (arith, h .same)))
         ∙ sym (append-nil (take i room))
-        ∙ sym (ap (λ (fs : List Event). take i room ++ answers b fs) none)
+        ∙ sym (ap (λ (fs : List Event). take i room ++ directAnswers b fs) none)
         ∙ h .answered in
         record { number = simp (t, u); answered = simp (t, u) told; block = simp (t, u) left }

@@ -7,9 +7,9 @@ use Rattle.state.specs.Number.{DONE}
 use Rattle.state.specs.Place.{BLOCK-SIZE}
 use Rattle.rules.specs.declared.event.Event.{Event}
 use Rattle.rules.specs.declared.verdict.Answer.{Answer}
+use Rattle.rules.specs.Direct.{directAnswer, directRun, directAnswers}
+use Rattle.rules.specs.Known.{direct}
 use Rattle.rules.specs.Refusal.{refusal}
-use Rattle.rules.specs.Step.{answer}
-use Rattle.rules.specs.Run.{run, answers}
 use Rattle.rules.specs.Verdict.{refusedWith}
 use Rattle.console.specs.Batch.{Batched}
 
@@ -21,7 +21,7 @@ Batcher = List Event → List Answer → List ℕ → List Answer
 abbrev pub Meets : Batcher → Type 0
 Meets f =
     (es : List Event) (room : List Answer) (b : List ℕ) → length es ≡ length room → length b ≡ BLOCK-SIZE
-    → f es room b ≡ answers b es
+    → f es room b ≡ directAnswers b es
 
 -- ---- wrong ones
 
@@ -33,19 +33,19 @@ reversed (x ∷ xs) = reversed xs ++ (x ∷ [])
 abbrev pub Reverses : Batcher → Type 0
 Reverses f =
     (es : List Event) (room : List Answer) (b : List ℕ) → length es ≡ length room → length b ≡ BLOCK-SIZE
-    → f es room b ≡ reversed (answers b es)
+    → f es room b ≡ reversed (directAnswers b es)
 
 -- an event that is refused stops the batch: behind it the answers are as they were
 abbrev pub Stops : Batcher → Type 0
 Stops f =
     (e : Event) (es : List Event) (x : Answer) (room : List Answer) (b : List ℕ) → length es ≡ length room
-    → length b ≡ BLOCK-SIZE → (refusal b e ≡ DONE → ⊥)
-    → f (e ∷ es) (x ∷ room) b ≡ answer b e ∷ room
+    → length b ≡ BLOCK-SIZE → (refusal b (direct e) ≡ DONE → ⊥)
+    → f (e ∷ es) (x ∷ room) b ≡ directAnswer b e ∷ room
 
 -- every event is answered on the block of the first
 abbrev pub onTheFirst : List ℕ → List Event → List Answer
 onTheFirst b [] = []
-onTheFirst b (e ∷ es) = answer b e ∷ onTheFirst b es
+onTheFirst b (e ∷ es) = directAnswer b e ∷ onTheFirst b es
 
 abbrev pub UsesTheFirst : Batcher → Type 0
 UsesTheFirst f =
@@ -61,10 +61,11 @@ pub record BatchTheorems : Type 0 where
       → Batched fs room₂ c DONE told₂ d
       → Batched (es ++ fs) (room₁ ++ room₂) b DONE (told₁ ++ told₂) d
   -- an event that is refused in the middle has its number, and changes nothing for the rest
-  pub refused-changes-nothing : (es fs : List Event) (e : Event) (b : List ℕ) → (refusal (run b es) e ≡ DONE → ⊥)
-      → run b (es ++ (e ∷ fs)) ≡ run b (es ++ fs)
-  pub refused-has-its-number : (es fs : List Event) (e : Event) (b : List ℕ) → (refusal (run b es) e ≡ DONE → ⊥)
-      → answers b (es ++ (e ∷ fs)) ≡ answers b es ++ (refusedWith (refusal (run b es) e) ∷ answers (run b es) fs)
+  pub refused-changes-nothing : (es fs : List Event) (e : Event) (b : List ℕ) → (refusal (directRun b es) (direct e) ≡ DONE → ⊥)
+      → directRun b (es ++ (e ∷ fs)) ≡ directRun b (es ++ fs)
+  pub refused-has-its-number : (es fs : List Event) (e : Event) (b : List ℕ) → (refusal (directRun b es) (direct e) ≡ DONE → ⊥)
+      → let c = directRun b es in
+      directAnswers b (es ++ (e ∷ fs)) ≡ directAnswers b es ++ (refusedWith (refusal c (direct e)) ∷ directAnswers c fs)
   -- three wrong batches
   pub not-reversing : (f : Batcher) → Meets f → Reverses f → ⊥
   pub not-stopping : (f : Batcher) → Meets f → Stops f → ⊥

@@ -18,7 +18,7 @@ use Rattle.interrupts.specs.declared.exception.Exception.{Exception}
 use Rattle.interrupts.specs.declared.check.Found.{Found}
 use Rattle.interrupts.proofs.Laws.{found-cases}
 use Rattle.rules.specs.declared.event.Event.{Event}
-use Rattle.rules.specs.Known.{unknownToOld, seen, NO-CODE}
+use Rattle.rules.specs.Known.{unknown, seen, NO-CODE}
 use Rattle.rules.specs.declared.verdict.Answer.{Answer}
 use Rattle.rules.specs.Parts.{Sound}
 use Rattle.rules.specs.Refusal.{refusal}
@@ -95,7 +95,7 @@ value-parts b e n = small-value b (action b e) (action-sound b e) (no-read b e n
 -- an event that is no read is none as a layout sees it either
 seen-no-read : (old : Bool) (e : Event) → (e .code ≡ BANKED-READ → ⊥) → seen old e .code ≡ BANKED-READ → ⊥
 unfolding seen
-seen-no-read old e n = by (old && unknownToOld e)
+seen-no-read old e n = by (unknown old e)
   where
     by : (t : Bool) → (if t then record { code = NO-CODE; a = e .a; b = e .b } else e) .code ≡ BANKED-READ → ⊥
     by true h = omega arith

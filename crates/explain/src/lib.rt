@@ -4,13 +4,13 @@
 // The block before is not stepped to again: the records before the Step were judged right, so it is the last bytes before
 // the Step, the start block or the block after of the Step before. It is stepped as the machine has it, an old one with HDCR 0
 // behind it; and of the block after as much is compared as its layout has.
-use judgements::seen_code;
 use machine::step::step_event;
 use records::layout;
 use records::layout::block_size;
 use records::layout::is_old;
 use records::layout::step_size;
 use rules::event::Event;
+use rules::known::seen_code;
 use rules::verdict::Answer;
 use state::number::WRONG_STEP;
 use state::place;

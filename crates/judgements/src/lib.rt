@@ -1,7 +1,5 @@
 // What is said of a Start, of a Step and of an End, each by the rest of the trace from the record's first byte on: the
 // fault's number, or ACCEPTED.
-use entry::code::NOTE;
-use entry::code::PREFETCH_ABORT;
 use machine::step::ANSWER_SIZE;
 use machine::step::replay;
 use records::layout;
@@ -11,6 +9,7 @@ use records::layout::start_size;
 use records::layout::step_kind;
 use records::layout::step_size;
 use records::run::Run;
+use rules::known::seen_code;
 use state::number::BAD_COUNT;
 use state::number::BAD_RECORD;
 use state::number::DONE;
@@ -32,17 +31,10 @@ ghost use Rattle.rules.specs.Step.{ANSWER-SIZE};
 ghost use Rattle.state.specs.Place.{BLOCK-SIZE};
 ghost use Rattle.records.specs.Layout.{layout, stepSize};
 ghost use Rattle.records.specs.Report.{headNumber, startNumber, endNumber};
-ghost use Rattle.records.specs.Judged.{narrow, IsWide, SeenCode, Shows, ShowsBehind, JudgedWide, Went};
+ghost use Rattle.records.specs.Judged.{narrow, IsWide, Shows, ShowsBehind, JudgedWide, Went};
 
 // The number of a record, and of a trace, without a fault.
 pub const ACCEPTED: u32 = DONE;
-
-// A code that is none, the A of a debug abort, and the place of HDCR as an operand.
-const NO_CODE: u32 = 0;
-
-const DEBUG: u32 = 4;
-
-const HDCR_PLACE: u32 = place::HDCR as u32;
 
 // The head of the record due, of this size and kind. Its two halves are compared as one word.
 pub fn judge_head(r: &[u8], size: u32, kind: u32) -> u32
@@ -72,27 +64,6 @@ pub fn judge_start(old: bool, r: &[u8]) -> u32
         return BAD_COUNT;
     }
     ACCEPTED
-}
-
-// The code of an event as the layout sees it: one that it does not know is none.
-pub fn seen_code(old: bool, code: u32, a: u32) -> u32
-    ensures { λ n. ⌜ SeenCode old code a n ⌝ }
-{
-    if !old {
-        return code;
-    }
-    if code == PREFETCH_ABORT {
-        if a == DEBUG {
-            return NO_CODE;
-        }
-        return code;
-    }
-    if code == NOTE {
-        if a == HDCR_PLACE {
-            return NO_CODE;
-        }
-    }
-    code
 }
 
 // Whether a whole Step shows HDCR of this block of the machine's, which an old one has not.

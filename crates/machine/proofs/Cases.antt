@@ -9,7 +9,7 @@ use lib.ListN.{replicate}
 use Rattle.words.specs.Word.{spelt, word, put}
 use Rattle.state.specs.Mode.{known, el1, guest, isTarget, spsrPlace, lrPlace}
 use Rattle.state.specs.Number.{DONE, BAD-STATE, BAD-EVENT, NOT-HERE, NO-REGISTER, NO-RIGHT, DISABLED, OWN-REGISTER}
-use Rattle.state.specs.Place.{BLOCK-SIZE, LR-irq, LR-svc, LR-abt, LR-mon, ELR-hyp, SPSR-svc, SPSR-mon, SPSR-hyp, CPSR, PC, SCR}
+use Rattle.state.specs.Place.{BLOCK-SIZE, LR-fiq, LR-irq, LR-svc, LR-abt, LR-mon, ELR-hyp, SPSR-svc, SPSR-mon, SPSR-hyp, CPSR, PC, SCR}
 use Rattle.state.specs.Place.{HCR, VBAR-ns, HVBAR, HDCR}
 use Rattle.state.specs.State.{good}
 use Rattle.entry.specs.Code.{SVC, SMC, HVC, PREFETCH-ABORT, DATA-ABORT}
@@ -24,6 +24,7 @@ use Rattle.returns.specs.Illegal.{illegal}
 use Rattle.returns.specs.Level.{level}
 use Rattle.returns.specs.Return.{wrongA, modeKept, wordAfter, addressAfter}
 use Rattle.rules.specs.Event.{INTERRUPT-CHECK, BANKED-READ, RETURN, badEvent}
+use Rattle.rules.specs.Known.{seen, direct}
 use Rattle.rules.specs.declared.event.Event.{Event}
 use Rattle.rules.specs.Refusal.{refusal}
 use Rattle.rules.specs.Step.{doneAction, action, answer, after}
@@ -53,15 +54,19 @@ holds b (x ∷ xs) = eqb (word b (x .0)) (x .1) && holds b xs
 abbrev event : Case → Event
 event c = record { code = c .code; a = c .a; b = 0 }
 
-abbrev right-case : Case → Bool
-right-case c =
-    eqb (answer (block (c .start)) (event c) .number) (c .number)
-    && (eqb (answer (block (c .start)) (event c) .value) (c .told)
-    && holds (after (block (c .start)) (event c)) (c .left))
+-- the event being seen so
+abbrev right-case : (Event → Event) → Case → Bool
+right-case see c =
+    eqb (answer (block (c .start)) (see (event c)) .number) (c .number)
+    && (eqb (answer (block (c .start)) (see (event c)) .value) (c .told)
+    && holds (after (block (c .start)) (see (event c))) (c .left))
+
+abbrev all-as : (Event → Event) → List Case → Bool
+all-as see [] = true
+all-as see (c ∷ cs) = right-case see c && all-as see cs
 
 abbrev all : List Case → Bool
-all [] = true
-all (c ∷ cs) = right-case c && all cs
+all = all-as (λ e. e)
 
 -- a done step that is not a banked access: start, event, value, words after
 abbrev gives : Words → ℕ → ℕ → ℕ → Words → Case
@@ -263,3 +268,49 @@ unfolding spelt put known el1 guest spsrPlace lrPlace good nsCleared masksAfter 
     synchronous.notHere synchronous.disabled synchronous.way cell denied own reason right badEvent refusal doneAction action answer
     after value
 debugs-right = refl
+
+-- ---- No. 13 of document 02
+
+-- a check that is refused: start, lines, number
+abbrev refuses-lines : Words → ℕ → ℕ → Case
+refuses-lines start lines number =
+    record { start = start; code = INTERRUPT-CHECK; a = lines; number = number; told = 0; left = start }
+
+-- "signals guests through HCR.VI and VF alone": with FMO and VF a virtual FIQ, with IMO and VI a virtual IRQ, by a direct step with no line
+abbrev virtual-ones : List Case
+virtual-ones =
+    gives ((HCR, 0x48) ∷ with 1 0x13) INTERRUPT-CHECK 0 0x5111C ((CPSR, 0x1D1) ∷ (LR-fiq, 0x8004) ∷ (HCR, 0x48) ∷ [])
+    ∷ gives ((HCR, 0x90) ∷ with 1 0x13) INTERRUPT-CHECK 0 0x61218 ((CPSR, 0x192) ∷ (LR-irq, 0x8004) ∷ (HCR, 0x90) ∷ [])
+    -- from User too; and a physical one goes before them
+    ∷ gives ((HCR, 0x48) ∷ with 1 0x10) INTERRUPT-CHECK 0 0x5111C ((CPSR, 0x1D1) ∷ [])
+    ∷ gives ((HCR, 0x90) ∷ with 1 0x10) INTERRUPT-CHECK 0 0x61218 ((CPSR, 0x192) ∷ [])
+    ∷ gives ((HCR, 0x90) ∷ with 1 0x13) INTERRUPT-CHECK 4 0x31A18 ((CPSR, 0x1DA) ∷ [])
+    -- "lines 8 and 16 of event 9 become BAD_EVENT", each, both, and beside a line that is not retired
+    ∷ refuses-lines ((HCR, 8) ∷ with 1 0x13) 8 BAD-EVENT
+    ∷ refuses-lines ((HCR, 0x10) ∷ with 1 0x13) 16 BAD-EVENT
+    ∷ refuses-lines ((HCR, 0x18) ∷ with 1 0x13) 24 BAD-EVENT
+    ∷ refuses-lines ((HCR, 0x90) ∷ with 1 0x13) 20 BAD-EVENT
+    -- a block that is not good goes before it
+    ∷ refuses-lines (with 1 0x200013) 16 BAD-STATE
+    ∷ []
+
+pub virtual-ones-right : all-as direct virtual-ones ≡ true
+unfolding seen spelt put known el1 guest spsrPlace lrPlace good nsCleared masksAfter cpsrAfter vectorBase written entered
+    synchronous.toMonitor synchronous.toHyp synchronous.target synchronous.offset synchronous.link
+    synchronous.notHere synchronous.disabled synchronous.way interrupt.found interrupt.way obeyed pending masked takeable cell denied
+    own reason right badEvent refusal doneAction action answer after value
+virtual-ones-right = refl
+
+-- the machine itself knows both lines, as a trace of kind 1 does
+abbrev by-line : List Case
+by-line =
+    gives ((HCR, 8) ∷ with 1 0x13) INTERRUPT-CHECK 8 0x5111C ((CPSR, 0x1D1) ∷ (LR-fiq, 0x8004) ∷ [])
+    ∷ gives ((HCR, 0x10) ∷ with 1 0x13) INTERRUPT-CHECK 16 0x61218 ((CPSR, 0x192) ∷ (LR-irq, 0x8004) ∷ [])
+    ∷ []
+
+pub by-line-right : all-as (seen true) by-line ≡ true
+unfolding seen spelt put known el1 guest spsrPlace lrPlace good nsCleared masksAfter cpsrAfter vectorBase written entered
+    synchronous.toMonitor synchronous.toHyp synchronous.target synchronous.offset synchronous.link
+    synchronous.notHere synchronous.disabled synchronous.way interrupt.found interrupt.way obeyed pending masked takeable cell denied
+    own reason right badEvent refusal doneAction action answer after value
+by-line-right = refl

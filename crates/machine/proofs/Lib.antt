@@ -17,3 +17,4 @@ pub mod Theorems
 pub mod Cases
 pub mod Differing
 pub mod Wrong
+pub mod Lines

@@ -1,5 +1,5 @@
 -- The step put together: what was decided is carried out; over an answer buffer, a wrong size leaves both buffers.
-use mathlib.Core.Path.{_≡_, refl, _∙_}
+use mathlib.Core.Path.{_≡_, refl, subst, _∙_}
 use mathlib.Core.Bool.{false}
 use mathlib.Core.List.{List}
 use Prim.Native.Nat.{ℕ, _<_, _^_}
@@ -41,6 +41,10 @@ module _ (b : List ℕ) (e : Event) where
   pub performed : {n : ℕ} {l m : List ℕ} → Carried b (action b e) n l m → Performed n l m
   unfolding answer after
   performed h = (h .1 .0, (h .0, (h .1 .1, h .1 .2)))
+
+  -- the same, of an event d that is seen as e
+  pub performed-as : (d : Event) {n : ℕ} {l m : List ℕ} → d ≡ e → Carried b (action b d) n l m → Performed n l m
+  performed-as d {n} {l} {m} q h = performed (subst (λ x. Carried b (action b x) n l m) q h)
 
   -- over an answer buffer
   module _ (buffer : List ℕ) where

@@ -1,6 +1,6 @@
 -- What the step promises beyond its definition, each by name (docs/PROMISES.md): the numbers, what is left, the return, the
--- interrupt check, what an entry leaves, and what the guest can learn. The words of these statements are in specs/Claims.antt,
--- specs/RoundTrip.antt and specs/Guest.antt; the proofs stand in their own files.
+-- interrupt check, what an entry leaves, what the guest can learn, and the lines that a direct step does not know. The words of these
+-- statements are in specs/Claims.antt, specs/RoundTrip.antt, specs/Guest.antt and specs/Lines.antt; the proofs stand in their own files.
 use mathlib.Core.Path.{_≡_, refl, ap, _∙_}
 use mathlib.Core.Bool.{true, false}
 use mathlib.Core.List.{List, [], _∷_}
@@ -35,6 +35,7 @@ use Rattle.rules.specs.declared.event.Event.{Event}
 use Rattle.machine.specs.Claims.{FirstRow, rowsLent, Accesses, EntersAsRouted, OneOf, TheFirst, CanBeTaken, EntersBy, Takes}
 use Rattle.machine.specs.Claims.{TakesNothing, Decided, debugTrappedIn, DebugToHyp, AsPlain, scrLeft, hcrLeft}
 use Rattle.machine.specs.Guest.{GuestTheorems}
+use Rattle.machine.specs.Lines.{LineTheorems}
 use Rattle.machine.specs.RoundTrip.{KeepsMode, back, RoundTrip}
 use Rattle.machine.proofs.Checking as checking
 use Rattle.machine.proofs.Debugging as debugging
@@ -45,6 +46,7 @@ use Rattle.machine.proofs.Goodness as goodness
 use Rattle.machine.proofs.Guest as guest
 use Rattle.machine.proofs.Laws.{number-is}
 use Rattle.machine.proofs.Leaving as leaving
+use Rattle.machine.proofs.Lines as lines
 use Rattle.machine.proofs.Numbers as numbers
 use Rattle.machine.proofs.Returning.{general-synchronous}
 use Rattle.machine.proofs.Returning as returning
@@ -278,3 +280,8 @@ guest-learns =
       monitor-learns = differing.monitor-learns;
       place-tells = differing.place-tells;
     }
+
+-- ---- No. 13 of document 02: the virtual lines, which a direct step refuses on a good block, and every other event
+
+pub lines-retired : LineTheorems
+lines-retired = lines.theorems

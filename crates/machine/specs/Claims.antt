@@ -26,6 +26,7 @@ use Rattle.interrupts.specs.declared.exception.Exception.the-variants.{Synchron
 use Rattle.interrupts.specs.declared.exception.Exception.the-variants.{VirtualSError, VirtualFiq, VirtualIrq}
 use Rattle.banked.specs.Cell.{cell}
 use Rattle.rules.specs.Event.{INTERRUPT-CHECK, isBanked, badEvent}
+use Rattle.rules.specs.Known.{direct}
 use Rattle.rules.specs.Refusal.{rows, refusal}
 use Rattle.rules.specs.Step.{routedIn, vaCleared, answer, after, sized, numberReturned, blockLeft, answerLeft}
 use Rattle.rules.specs.Verdict.{entryTo, answerFor}
@@ -182,8 +183,8 @@ pub record Given (b : List ℕ) (e : Event) (buffer : List ℕ) : Type 0 where
   pub a-fits : e .a < 2 ^ 32
   pub b-fits : e .b < 2 ^ 32
 
--- what the contract of the step asks of such a function
+-- what the contract of the step asks of such a function: it is a direct one
 pub record Meets (f : Stepper) : Type 0 where
-  pub returns : (b : List ℕ) (e : Event) (m : List ℕ) → Given b e m → f .number b e m ≡ numberReturned b e m
-  pub leaves : (b : List ℕ) (e : Event) (m : List ℕ) → Given b e m → f .block b e m ≡ blockLeft b e m
-  pub answers : (b : List ℕ) (e : Event) (m : List ℕ) → Given b e m → f .buffer b e m ≡ answerLeft b e m
+  pub returns : (b : List ℕ) (e : Event) (m : List ℕ) → Given b e m → f .number b e m ≡ numberReturned b (direct e) m
+  pub leaves : (b : List ℕ) (e : Event) (m : List ℕ) → Given b e m → f .block b e m ≡ blockLeft b (direct e) m
+  pub answers : (b : List ℕ) (e : Event) (m : List ℕ) → Given b e m → f .buffer b e m ≡ answerLeft b (direct e) m

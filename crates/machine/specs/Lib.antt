@@ -1,3 +1,4 @@
 pub mod Claims
 pub mod RoundTrip
 pub mod Guest
+pub mod Lines

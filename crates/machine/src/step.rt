@@ -6,10 +6,14 @@
 // the registers of the dearest (docs/DECISIONS.md, "Shape"). `step` is C's, `replay` that of the
 // checker, the explanation and the recorder, `advance` that of a batch. The sizes are tested in the same function for its sake
 // too: behind so many tests the compiler makes no event part of the dispatch.
+//
+// The machine knows every event; `step` and `advance`, which are direct, do not know the virtual lines (document 02, No. 13). Who
+// replays a trace says which events its layout knows (`rules::known`).
 ghost use mathlib.Core.Path.{_≡_};
 ghost use Prim.Native.Nat.{_<_, _^_};
 ghost use lib.ListN.{length};
 ghost use Rattle.state.specs.Place.{BLOCK-SIZE};
+ghost use Rattle.rules.specs.Known.{direct};
 ghost use Rattle.rules.specs.Parts.{Carried};
 ghost use Rattle.rules.specs.Step.{
   ANSWER-SIZE,
@@ -25,6 +29,7 @@ use rules::answer::NUMBER;
 use rules::answer::VALUE;
 use rules::answer::refuse;
 use rules::event::Event;
+use rules::known::direct_code;
 use rules::verdict::Answer;
 use state::number;
 use state::place;
@@ -34,11 +39,13 @@ use words::get_word;
 // The bytes of an answer buffer.
 pub const ANSWER_SIZE: usize = 8;
 
-// One event on a block, over a lent answer buffer; the number is returned too. On BAD_SIZE neither changes.
+// A direct step: one event on a block, over a lent answer buffer; the number is returned too. On BAD_SIZE neither changes.
 pub fn step(block: &mut [u8], code: u32, a: u32, b: u32, buffer: &mut [u8]) -> u32
-    ensures number { λ r. ⌜ r ≡ numberReturned (now (block .entry)) (record { code = code; a = a; b = b }) (now (buffer .entry)) ⌝ }
-    ensures leaves { λ _. ⌜ now (block .exit) ≡ blockLeft (now (block .entry)) (record { code = code; a = a; b = b }) (now (buffer .entry)) ⌝ }
-    ensures answers { λ _. ⌜ now (buffer .exit) ≡ answerLeft (now (block .entry)) (record { code = code; a = a; b = b }) (now (buffer .entry)) ⌝ }
+    ensures number { λ r. ⌜ r ≡ numberReturned (now (block .entry)) (direct (record { code = code; a = a; b = b })) (now (buffer .entry)) ⌝ }
+    ensures leaves { λ _. ⌜ now (block .exit)
+        ≡ blockLeft (now (block .entry)) (direct (record { code = code; a = a; b = b })) (now (buffer .entry)) ⌝ }
+    ensures answers { λ _. ⌜ now (buffer .exit)
+        ≡ answerLeft (now (block .entry)) (direct (record { code = code; a = a; b = b })) (now (buffer .entry)) ⌝ }
 {
     if block.len() != place::BLOCK_SIZE {
         return number::BAD_SIZE;
@@ -52,7 +59,7 @@ pub fn step(block: &mut [u8], code: u32, a: u32, b: u32, buffer: &mut [u8]) -> u
     if fault != number::DONE {
         return refuse(buffer, fault);
     }
-    match code {
+    match direct_code(code, a) {
         code::UNDEFINED_INSTRUCTION => synchronous::undefined_instruction(
             block,
             cpsr,
@@ -77,7 +84,7 @@ pub fn step(block: &mut [u8], code: u32, a: u32, b: u32, buffer: &mut [u8]) -> u
     }
 }
 
-// The same step, for who goes over a trace again; its value is a word.
+// The machine's step, of any event, for who goes over a trace again; its value is a word.
 pub fn replay(block: &mut [u8], code: u32, a: u32, b: u32, buffer: &mut [u8]) -> u32
     ensures number { λ r. ⌜ r ≡ numberReturned (now (block .entry)) (record { code = code; a = a; b = b }) (now (buffer .entry)) ⌝ }
     ensures leaves { λ _. ⌜ now (block .exit) ≡ blockLeft (now (block .entry)) (record { code = code; a = a; b = b }) (now (buffer .entry)) ⌝ }
@@ -170,10 +177,10 @@ fn advance_sized(block: &mut [u8], code: u32, a: u32, b: u32, buffer: &mut [u8])
     }
 }
 
-// The same, for who goes through a list of events. Both words are read back from the buffer: they go on as one.
+// A direct step, for who goes through a list of events. Both words are read back from the buffer: they go on as one.
 pub fn advance(block: &mut [u8], e: Event) -> Answer
-    ensures answers { λ r. ⌜ r ≡ answer (now (block .entry)) e ⌝ }
-    ensures leaves { λ _. ⌜ now (block .exit) ≡ after (now (block .entry)) e ⌝ }
+    ensures answers { λ r. ⌜ r ≡ answer (now (block .entry)) (direct e) ⌝ }
+    ensures leaves { λ _. ⌜ now (block .exit) ≡ after (now (block .entry)) (direct e) ⌝ }
 {
     if block.len() != place::BLOCK_SIZE {
         return Answer {
@@ -182,7 +189,7 @@ pub fn advance(block: &mut [u8], e: Event) -> Answer
         };
     }
     let mut buffer = [0u8; ANSWER_SIZE];
-    advance_sized(block, e.code, e.a, e.b, &mut buffer);
+    advance_sized(block, direct_code(e.code, e.a), e.a, e.b, &mut buffer);
     Answer {
         number: get_word(&buffer, NUMBER),
         value: get_word(&buffer, VALUE),

@@ -7,7 +7,7 @@ use lib.ListN.{length, take, drop, length-append, length-drop, drop-of-length-le
 use lib.Seq.{drop-drop, drop-at, take-at, take-all, take-add, take-length, length-take-le}
 use Rattle.words.specs.Word.{le32, put}
 use Rattle.rules.specs.declared.event.Event.{Event}
-use Rattle.rules.specs.Known.{seen}
+use Rattle.rules.specs.Known.{direct}
 use Rattle.rules.specs.Step.{ANSWER-SIZE, answerBytes, answer, after, blockLeft, answerLeft}
 use Rattle.records.specs.Layout.{newLayout, startSize, stepSize, endSize, endKind, numberAt, blockAfterAt}
 use Rattle.records.specs.Published.{head, eventBytes, startRecord, stepShowing, stepRecord, endRecord}
@@ -101,22 +101,22 @@ answerAt = newLayout .size + numberAt
 abbrev afterAt : ℕ
 afterAt = newLayout .size + blockAfterAt
 
--- q is p with its block copied to where the block after goes. The event is put; the block is stepped where it was copied to; and
--- the answer is put.
-pub step-written : (p : List ℕ) (e : Event) → newLayout .size + stepSize newLayout ≤ length p → {q t c m u : List ℕ}
+-- q is p with its block copied to where the block after goes. The event is put; the block is stepped where it was copied to, by the
+-- event d, as which e is seen; and the answer is put.
+pub step-written : (p : List ℕ) (e d : Event) → d ≡ direct e → newLayout .size + stepSize newLayout ≤ length p → {q t c m u : List ℕ}
     → let size = newLayout .size in
     let named-in = take size q ++ (t ++ drop (length q - size) (drop size q)) in
     let before = take size (drop afterAt named-in) in
     let stepped = take afterAt named-in ++ (c ++ drop size (drop afterAt named-in)) in
     q ≡ writtenAt p afterAt (take size p)
     → t ≡ named e ++ drop numberAt (take (length q - size) (drop size q))
-    → c ≡ blockLeft before e cleared
-    → m ≡ answerLeft before e cleared
+    → c ≡ blockLeft before d cleared
+    → m ≡ answerLeft before d cleared
     → u ≡ take (length m) m ++ drop (length m) (take (length stepped - answerAt) (drop answerAt stepped))
     → take answerAt stepped ++ (u ++ drop (length stepped - answerAt) (drop answerAt stepped))
     ≡ writtenAt p size (stepRecord newLayout (take size p) e)
-unfolding seen stepShowing
-step-written p e l {q} {t} {c} {m} {u} e₀ e₁ e₂ e₃ e₄ =
+unfolding stepShowing
+step-written p e d seen l {q} {t} {c} {m} {u} e₀ e₁ e₂ e₃ e₄ =
     let size = newLayout .size in
     let b = take size p in
     let rest = drop (size + stepSize newLayout) p in
@@ -151,11 +151,11 @@ step-written p e l {q} {t} {c} {m} {u} e₀ e₁ e₂ e₃ e₄ =
     let behind : drop afterAt named-in ≡ b ++ rest = ap (drop afterAt) put-in ∙ drop-at front (b ++ rest) afterAt front-long in
     let before : take size (drop afterAt named-in) ≡ b = ap (take size) behind ∙ take-at b rest size long in
     -- the block is stepped where it was copied to
-    let step = lent b e cleared long refl in
-    let c′ = after b e in
-    let m′ = answerBytes (answer b e) in
-    let left : c ≡ c′ = e₂ ∙ ap (λ (d : List ℕ). blockLeft d e cleared) before ∙ step .1 in
-    let answered : m ≡ m′ = e₃ ∙ ap (λ (d : List ℕ). answerLeft d e cleared) before ∙ step .2 in
+    let step = lent b (direct e) cleared long refl in
+    let c′ = after b (direct e) in
+    let m′ = answerBytes (answer b (direct e)) in
+    let left : c ≡ c′ = e₂ ∙ (λ i. blockLeft (before i) (seen i) cleared) ∙ step .1 in
+    let answered : m ≡ m′ = e₃ ∙ (λ i. answerLeft (before i) (seen i) cleared) ∙ step .2 in
     let stepped = take afterAt named-in ++ (c ++ drop size (drop afterAt named-in)) in
     let head-of : take afterAt named-in ≡ front =
     ap (take afterAt) put-in ∙ take-at front (b ++ rest) afterAt front-long in
@@ -165,7 +165,7 @@ step-written p e l {q} {t} {c} {m} {u} e₀ e₁ e₂ e₃ e₄ =
     ∙ append-assoc b (named e ++ answer₀) (c′ ++ rest)
     ∙ sym (append-assoc b (named e) (answer₀ ++ (c′ ++ rest))) in
     -- and the answer is put
-    let long′ : length c′ ≡ size = length-after b e ∙ long in
+    let long′ : length c′ ≡ size = length-after b (direct e) ∙ long in
     let named-long : length (b ++ named e) ≡ answerAt = omega (arith, long, length-append b (named e)) in
     let all = ap length stepped-in ∙ length-append (b ++ named e) (answer₀ ++ (c′ ++ rest)) in
     let m-long : length m ≡ ANSWER-SIZE = ap length answered in
@@ -177,7 +177,7 @@ step-written p e l {q} {t} {c} {m} {u} e₀ e₁ e₂ e₃ e₄ =
     ∙ write-middle (b ++ named e) answer₀ m′ (c′ ++ rest) answerAt named-long answer-long
     ∙ append-assoc b (named e) (m′ ++ (c′ ++ rest))
     ∙ ap (λ (n : ℕ). b ++ (stepRecord newLayout b e ++ drop (size + n) p))
-    (sym (length-step newLayout lawful-new e (answer b e) c′ long′))
+    (sym (length-step newLayout lawful-new e (answer b (direct e)) c′ long′))
 
 -- the same in a buffer, at this place: the part that is lent begins with the block before
 pub step-behind : (s : List ℕ) (place before : ℕ) (e : Event) → place ≡ before + newLayout .size
@@ -187,7 +187,6 @@ pub step-behind : (s : List ℕ) (place before : ℕ) (e : Event) → place ≡ 
     c ≡ writtenAt part (newLayout .size) (stepRecord newLayout (take (newLayout .size) part) e)
     → take before s ++ (c ++ drop (length s - before) (drop before s))
     ≡ writtenAt s place (stepRecord newLayout (blockBefore newLayout place s) e)
-unfolding seen
 step-behind s place before e k l {c} h =
     let size = newLayout .size in
     let b = take size (drop before s) in
@@ -196,7 +195,7 @@ step-behind s place before e k l {c} h =
     let long : length b ≡ size = length-take-le size (drop before s) (omega (arith, k, l, length-drop before s)) in
     let r = stepRecord newLayout b e in
     let long′ : length r ≡ stepSize newLayout =
-    length-step newLayout lawful-new e (answer b e) (after b e) (length-after b e ∙ long) in
+    length-step newLayout lawful-new e (answer b (direct e)) (after b (direct e)) (length-after b (direct e) ∙ long) in
     let written : c ≡ b ++ r ++ drop (size + length r) part =
     h
     ∙ (λ i. take size (whole i) ++ (stepRecord newLayout (take size (whole i)) e

@@ -6,6 +6,7 @@ use machine::step::ANSWER_SIZE;
 use machine::step::replay;
 use records::layout;
 use rules::event::Event;
+use rules::known::direct_code;
 use state::number;
 use state::place::BLOCK_SIZE;
 use words::put_word;
@@ -115,7 +116,13 @@ fn put_step(part: &mut [u8], e: Event)
     copy_block(part);
     put_event(&mut part[BLOCK_SIZE..], e);
     let mut answer = [0u8; ANSWER_SIZE];
-    replay(&mut part[AFTER..AFTER_END], e.code, e.a, e.b, &mut answer);
+    replay(
+        &mut part[AFTER..AFTER_END],
+        direct_code(e.code, e.a),
+        e.a,
+        e.b,
+        &mut answer,
+    );
     bytes::copy(&answer, &mut part[ANSWER..]);
 }
 

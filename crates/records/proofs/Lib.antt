@@ -23,3 +23,4 @@ pub mod Knowing
 pub mod Standing
 pub mod Arrivals
 pub mod Joining
+pub mod Lines

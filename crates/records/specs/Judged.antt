@@ -47,11 +47,6 @@ pub record JudgedWide (old : Bool) (r b : List ℕ) (n : ℕ) (c : List ℕ) : T
   pub judged : Judged (layout old) r (narrow old b) n (narrow old c)
   pub still : n ≡ ACCEPTED → IsWide old c
 
--- the code of an event as the layout sees it, its operands being as they are
-abbrev pub SeenCode : Bool → ℕ → ℕ → ℕ → Type 0
-SeenCode old code a n =
-    (w : ℕ) → _≡_ {A = Event} (record { code = n; a = a; b = w }) (seen old (record { code = code; a = a; b = w }))
-
 module _ (L : Layout) where
   -- the block after k Steps from the front of r on, b being the block before them
   unfoldable pub blockAfter : ℕ → List ℕ → List ℕ → List ℕ

@@ -8,3 +8,4 @@ pub mod Claims
 pub mod Theorems
 pub mod Either
 pub mod Arrival
+pub mod Lines

@@ -1,5 +1,6 @@
 pub mod Event
 pub mod Known
+pub mod Direct
 pub mod Verdict
 pub mod Action
 pub mod Refusal

@@ -2,5 +2,6 @@
 // answer that tells it, and an exception that is taken.
 pub mod answer;
 pub mod event;
+pub mod known;
 pub mod taking;
 pub mod verdict;
