@@ -1,8 +1,10 @@
 /*
  * console: judges the traces in files and prints one line for each, or counts
- * them.  This file only reads the arguments.
+ * them, or says what the instruction words in logs are.  This file only reads the
+ * arguments.
  */
 #include "complain.h"
+#include "instructions.h"
 #include "judge.h"
 #include "name.h"
 #include "output.h"
@@ -15,6 +17,7 @@ static const char USAGE[] =
     "       console --follow [--quiet] [--] FILE...\n"
     "       console --html [--] FILE > PAGE\n"
     "       console --count [--totals TOTALS] [--quiet] [--] FILE...\n"
+    "       console --instructions [--] FILE...\n"
     "       console --help\n";
 
 static const char HELP[] =
@@ -51,6 +54,9 @@ static const char HELP[] =
     "            error; with --quiet and --totals alone\n"
     "  --totals TOTALS\n"
     "            start from the counts in the file TOTALS, and write the new ones there\n"
+    "  --instructions\n"
+    "            each FILE is no trace but a log, with an instruction word in each line:\n"
+    "            print each line with the banked access that it is; with no other option\n"
     "  --quiet   print no line, only set the exit status; what goes wrong is still told,\n"
     "            with --count the refused traces too\n"
     "  --help    print this\n"
@@ -67,9 +73,22 @@ static const char HELP[] =
     "nothing new or some FILE could not be read; not if it is no such file, or if the\n"
     "counts could not be printed. Consoles with the same TOTALS wait for each other.\n"
     "\n"
-    "Exit status: 0 all accepted; 1 any refused; 2 bad usage, a TOTALS that is none, or a\n"
-    "file that could not be read (it is named, and the others are still judged) or\n"
-    "written.\n";
+    "A log is text of any size. The word is the first field of a line, up to a blank: 1 to\n"
+    "8 hexadecimal digits, capital or small, with 0x before them or without. Behind the\n"
+    "line's own text and two spaces stands what the word is:\n"
+    "\n"
+    "    MRS r2, R8_usr: read 0        the instruction, and its event with A\n"
+    "    MSREQ SPSR_svc, r14: write 50\n"
+    "    MRS r2, unallocated: read 7   no register has this A\n"
+    "    NOT_BANKED                    no MRS or MSR of a banked register\n"
+    "\n"
+    "Of the text, tabs stay, and `?` stands for what is not shown, as in a name. A line\n"
+    "whose first field is no word is named by its number on standard error; a blank one is\n"
+    "passed over. Lines end with LF or with CR and LF, the last one also with the file.\n"
+    "\n"
+    "Exit status: 0 all accepted, or all words read, whatever they are; 1 any refused; 2 bad\n"
+    "usage, a TOTALS that is none, a line of a log without a word, or a file that could not\n"
+    "be read (it is named, and the others are still judged) or written.\n";
 
 /* The flag that an option sets; NULL for what is no such option. */
 static bool *flag_of(struct wish *wish, const char *option)
@@ -80,7 +99,7 @@ static bool *flag_of(struct wish *wish, const char *option)
     } flags[] = {
         { "--quiet", &wish->quiet }, { "--follow", &wish->follow }, { "--explain", &wish->explain },
         { "--trace", &wish->trace }, { "--html", &wish->html },     { "--count", &wish->count },
-        { "--help", &wish->help },
+        { "--help", &wish->help },   { "--instructions", &wish->instructions },
     };
 
     for (size_t i = 0; i < sizeof flags / sizeof *flags; i++)
@@ -134,12 +153,20 @@ static bool parse(int argc, char **argv, struct wish *wish)
     return right;
 }
 
+/* Whether something is asked for that is about traces. */
+static bool is_about_traces(const struct wish *wish)
+{
+    return wish->quiet || wish->follow || wish->explain || wish->trace || wish->html || wish->count || wish->totals != NULL;
+}
+
 /* Whether there is something to do, and it can be done at once; says why not. */
 static bool is_possible(const struct wish *wish)
 {
     if (wish->help)
         return true;
-    if (wish->totals != NULL && !wish->count)
+    if (wish->instructions && is_about_traces(wish))
+        fputs("console: --instructions takes no other option: a log is no trace\n", stderr);
+    else if (wish->totals != NULL && !wish->count)
         fputs("console: --totals goes with --count: it keeps counts\n", stderr);
     else if (wish->count && (wish->html || wish->explain || wish->trace || wish->follow))
         fputs("console: --count takes --quiet and --totals alone: it is about all traces together\n", stderr);
@@ -170,5 +197,7 @@ int main(int argc, char **argv)
         send_output();
         return ALL_ACCEPTED;
     }
+    if (wish.instructions)
+        return tell_instructions(wish.files, wish.file_count) ? ALL_ACCEPTED : TROUBLE;
     return (int)judge_files(&wish);
 }

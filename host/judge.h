@@ -9,14 +9,14 @@
 enum status {
     ALL_ACCEPTED = 0,
     ANY_REFUSED = 1,
-    TROUBLE = 2 /* bad usage, a file that cannot be read, something that cannot be written */
+    TROUBLE = 2 /* bad usage, a file that cannot be read, a line of a log without a word, something that cannot be written */
 };
 
 /* What the arguments ask for. */
 struct wish {
-    bool quiet, follow, explain, trace, html, count, help;
+    bool quiet, follow, explain, trace, html, count, instructions, help;
     const char *totals; /* the totals file, or NULL */
-    char **files;       /* the arguments that are files, in order */
+    char **files;       /* the arguments that are files, in order: traces, or logs */
     size_t file_count;
 };
 

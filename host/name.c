@@ -1,4 +1,4 @@
-/* Names as text that is nothing but a name: see name.h. */
+/* Names and lines as text that is nothing else: see name.h. */
 #include "name.h"
 
 #include <stdbool.h>
@@ -55,16 +55,16 @@ size_t shown_size(const char *text)
 }
 
 /* A byte that begins no character to be shown is skipped alone, and so are those behind it, which begin none either. */
-static void put_each(FILE *out, const char *name, put_character *put)
+static void put_each(FILE *out, const char *text, const char *end, put_character *put)
 {
-    while (*name != '\0') {
-        const size_t size = shown_size(name);
+    while (text < end) {
+        const size_t size = shown_size(text);
 
         if (size != 0)
-            put(out, (const unsigned char *)name, size);
+            put(out, (const unsigned char *)text, size);
         else
             fputc('?', out);
-        name += size != 0 ? size : 1;
+        text += size != 0 ? size : 1;
     }
 }
 
@@ -87,10 +87,22 @@ static void put_escaped(FILE *out, const unsigned char *at, size_t size)
 
 void put_name(FILE *out, const char *name)
 {
-    put_each(out, name, put_plain);
+    put_each(out, name, name + strlen(name), put_plain);
 }
 
 void put_name_in_page(FILE *out, const char *name)
 {
-    put_each(out, name, put_escaped);
+    put_each(out, name, name + strlen(name), put_escaped);
+}
+
+/* From tab to tab: none of them is within a character. */
+void put_line(FILE *out, const char *text, size_t length)
+{
+    const char *const end = text + length;
+
+    for (const char *tab; (tab = memchr(text, '\t', (size_t)(end - text))) != NULL; text = tab + 1) {
+        put_each(out, text, tab, put_plain);
+        fputc('\t', out);
+    }
+    put_each(out, text, end, put_plain);
 }

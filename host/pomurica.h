@@ -1,7 +1,7 @@
 /*
  * pomurica.h: the exception rules of an Arm core on which all four Exception
- * levels use AArch32, one step at a time, and a checker of traces of steps.
- * C11 and C++11.
+ * levels use AArch32, one step at a time, a checker of traces of steps, and the
+ * instruction words of banked accesses.  C11 and C++11.
  *
  * A state block of 180 bytes holds the core's banked and system registers, an
  * event is something that happens to it, and a step says what the core does.
@@ -19,7 +19,7 @@
  * pomurica_batch take blocks of 180 bytes alone, and pomurica_record takes such a
  * block and writes the new layout: all three go by the rules of the new one.
  *
- * The ten functions are proved: for every input they return, give the one
+ * The twelve functions are proved: for every input they return, give the one
  * answer that the rules give, and write nothing but what is said here.  They
  * keep nothing between calls, take no memory and may be called from several
  * threads, each with buffers of its own.  A buffer of bytes may lie at any
@@ -27,7 +27,7 @@
  *
  * The archive libconsole.a is x86-64 code for Linux: ELF, the System V calling
  * convention, position independent, for any x86-64 processor.  It defines the
- * ten functions and no other name, calls nothing but the C library's memcpy,
+ * twelve functions and no other name, calls nothing but the C library's memcpy,
  * memmove and memset, and stands behind the objects that use it:
  *
  *     cc -I host program.c libconsole.a
@@ -59,6 +59,8 @@ enum {
     POMURICA_EXPLANATION_SIZE = 24,
     POMURICA_COUNTS_SIZE = 512,
     POMURICA_LINES_SIZE = 2048, /* room that is enough for the lines of any counts */
+    POMURICA_PARTS_SIZE = 16,
+    POMURICA_WORD_SIZE = 4,
     POMURICA_START_SIZE = 188,
     POMURICA_OLD_START_SIZE = 184,
     POMURICA_STEP_SIZE = 204,
@@ -120,8 +122,9 @@ enum pomurica_record_word {
  * Answer numbers: 0 to 7, 16 and 17 of a step; 0, 1 and 8 to 12 of the checker,
  * of an explanation and of a closing, and with 13 of a count; 0, 9 to 12 and 14
  * of a feeding; 0, 1 and 15 of the lines of counts; 0, 1, 10 and 15 of a
- * recording; 0 and 1 of a batch; 0 of an opening.  (Of a session that was
- * opened: in another one any number may stand as its fault.)
+ * recording; 0, 1 and 18 of an instruction word, read or written; 0 and 1 of a
+ * batch; 0 of an opening.  (Of a session that was opened: in another one any
+ * number may stand as its fault.)
  */
 enum pomurica_number {
     POMURICA_DONE = 0,        /* the step was done; the trace is accepted */
@@ -141,7 +144,8 @@ enum pomurica_number {
     POMURICA_CLOSED = 14,     /* feeding: the session was closed before; nothing was changed */
     POMURICA_NO_ROOM = 15,    /* the room is too small for what is to be written; nothing was written */
     POMURICA_DISABLED = 16,   /* SMC with SCR.SCD 1, HVC with SCR.HCE 0: on the core Undefined, code 1 */
-    POMURICA_OWN_REGISTER = 17 /* banked access: to the mode's own register, which it reaches by another instruction */
+    POMURICA_OWN_REGISTER = 17, /* banked access: to the mode's own register, which it reaches by another instruction */
+    POMURICA_NOT_BANKED = 18  /* no instruction word of a banked access, or no parts of one */
 };
 
 /*
@@ -327,7 +331,7 @@ enum pomurica_which {
     POMURICA_WHICH_VIRTUAL_IRQ = 6
 };
 
-/* Where the words of an answer, a report and an explanation lie, for pomurica_get_word. */
+/* Where the words of an answer, a report, an explanation and the parts of an instruction lie, for pomurica_get_word. */
 enum pomurica_told_word {
     POMURICA_ANSWER_NUMBER = 0,
     POMURICA_ANSWER_VALUE = 1,
@@ -339,7 +343,11 @@ enum pomurica_told_word {
     POMURICA_EXPLANATION_STEPS = 2,
     POMURICA_EXPLANATION_PART = 3,   /* enum pomurica_part */
     POMURICA_EXPLANATION_FOUND = 4,
-    POMURICA_EXPLANATION_DUE = 5
+    POMURICA_EXPLANATION_DUE = 5,
+    POMURICA_PARTS_CODE = 0,      /* POMURICA_EVENT_BANKED_READ of MRS, POMURICA_EVENT_BANKED_WRITE of MSR */
+    POMURICA_PARTS_A = 1,         /* 32 * R + SYSm, 0 to 63: A of that event */
+    POMURICA_PARTS_CONDITION = 2, /* 0 to 14, POMURICA_MOST_CONDITION, which is always */
+    POMURICA_PARTS_REGISTER = 3   /* 0 to 14, POMURICA_MOST_REGISTER: r0 to r14, which MRS writes and MSR reads */
 };
 
 /*
@@ -582,7 +590,55 @@ uint32_t pomurica_count_lines(const uint8_t *counts, size_t counts_len,
                               uint8_t *lines, size_t lines_len,
                               uint8_t *answer, size_t answer_len);
 
-/* The word at a place, counted in words from 0, of a block, a record, an answer, a report or an explanation. */
+/*
+ * Instruction words: MRS (banked register) and MSR (banked register) of the A32
+ * instruction set.  The parts of one are the code and A of its event, the
+ * condition under which the core does it, and the general register that gets the
+ * word or has it.  Condition and general register are no part of the event.  B of
+ * a banked write, the new word, is no part of the instruction word: it is what
+ * the general register held.
+ *
+ * An A that names no register (a cell that Arm leaves unallocated) is read and
+ * written like any other; a step answers its event with POMURICA_NO_REGISTER.
+ */
+enum {
+    POMURICA_MOST_CONDITION = 14, /* 15 is of other instructions */
+    POMURICA_MOST_REGISTER = 14   /* 15, PC, is CONSTRAINED UNPREDICTABLE */
+};
+
+/*
+ * What an instruction word is.
+ *
+ * word   any word, as a number: 0xE1002200 is MRS r2, R8_usr, and 0xE120F202 is
+ *        MSR R8_usr, r2.
+ * parts  16 bytes: code, A, condition and register, each a little-endian word;
+ *        all 0 where the word is none.
+ *
+ * Returns POMURICA_DONE, or POMURICA_NOT_BANKED for any word that is neither
+ * instruction, or is one of them with condition 15, with register 15, or with a
+ * bit that should be 0 or 1 and is not.  POMURICA_BAD_SIZE, if parts_len is not
+ * 16, writes nothing.
+ */
+uint32_t pomurica_read_instruction(uint32_t word, uint8_t *parts, size_t parts_len);
+
+/*
+ * The instruction word of its parts.  Reading it gives the same parts, and a word
+ * that was read is written as it was.
+ *
+ * code, a, condition, reg
+ *        any words; the parts as pomurica_read_instruction has them.
+ * word   4 bytes: the word, little-endian; 0 where the parts are of none.
+ *
+ * Returns POMURICA_DONE, or POMURICA_NOT_BANKED where any part is out of its
+ * range.  POMURICA_BAD_SIZE, if word_len is not 4, writes nothing.
+ */
+uint32_t pomurica_write_instruction(uint32_t code, uint32_t a, uint32_t condition, uint32_t reg,
+                                    uint8_t *word, size_t word_len);
+
+/*
+ * The word at a place, counted in words from 0, of a block, a record, an answer,
+ * a report, an explanation or the parts of an instruction.
+ */
 static inline uint32_t pomurica_get_word(const uint8_t *bytes, size_t place)
 {
     const uint8_t *word = bytes + 4 * place;
@@ -624,6 +680,7 @@ static inline const char *pomurica_number_name(uint32_t number)
     case POMURICA_NO_ROOM: return "NO_ROOM";
     case POMURICA_DISABLED: return "DISABLED";
     case POMURICA_OWN_REGISTER: return "OWN_REGISTER";
+    case POMURICA_NOT_BANKED: return "NOT_BANKED";
     default: return "UNKNOWN";
     }
 }

@@ -99,3 +99,14 @@ uint32_t pomurica_count_lines(const uint8_t *counts, size_t counts_len,
 {
     return second_count_lines(counts, counts_len, lines, lines_len, answer, answer_len);
 }
+
+uint32_t pomurica_read_instruction(uint32_t word, uint8_t *parts, size_t parts_len)
+{
+    return second_read_instruction(word, parts, parts_len);
+}
+
+uint32_t pomurica_write_instruction(uint32_t code, uint32_t a, uint32_t condition, uint32_t reg,
+                                    uint8_t *word, size_t word_len)
+{
+    return second_write_instruction(code, a, condition, reg, word, word_len);
+}

@@ -1,11 +1,11 @@
 /*
  * A second implementation of document 01, and of No. 1, No. 2, No. 5, No. 6,
- * No. 7, No. 8, No. 9, No. 10, No. 11 and No. 13 of document 02, written from the
- * papers alone, to be held against the proved one.  (No. 3 changes no answer, and
- * the table of No. 4 is printed by decisions.py.)  Each function returns the
- * number; none keeps anything between calls but what is in a session.  (NULL, 0)
- * is an empty buffer, an empty list and an empty run.  No. 11: a block has 180
- * bytes, and a trace may be of the old layout or of the new.
+ * No. 7, No. 8, No. 9, No. 10, No. 11, No. 13 and No. 14 of document 02, written
+ * from the papers alone, to be held against the proved one.  (No. 3 changes no
+ * answer, and the table of No. 4 is printed by decisions.py.)  Each function
+ * returns the number; none keeps anything between calls but what is in a session.
+ * (NULL, 0) is an empty buffer, an empty list and an empty run.  No. 11: a block
+ * has 180 bytes, and a trace may be of the old layout or of the new.
  */
 #ifndef SECOND_H
 #define SECOND_H
@@ -48,5 +48,13 @@ uint32_t second_count(const uint8_t *trace, size_t trace_len,
 uint32_t second_count_lines(const uint8_t *counts, size_t counts_len,
                             uint8_t *lines, size_t lines_len,
                             uint8_t *answer, size_t answer_len);
+
+/*
+ * No. 14: an instruction word into parts of 16 bytes, code, A, condition and register; and a word of 4 bytes, little-endian,
+ * from these.  Neither MRS nor MSR of a banked register, or parts of neither: NOT_BANKED, and the parts or the word are 0.
+ */
+uint32_t second_read_instruction(uint32_t word, uint8_t *parts, size_t parts_len);
+uint32_t second_write_instruction(uint32_t code, uint32_t a, uint32_t condition, uint32_t reg,
+                                  uint8_t *word, size_t word_len);
 
 #endif

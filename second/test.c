@@ -1,11 +1,11 @@
 /*
  * The worked cases of document 01, "Numbers to hold against it", a to l, and
  * cases of our own for No. 1, No. 2, No. 5, No. 6, No. 7, No. 8, No. 9, No. 10,
- * No. 11 and No. 13 of document 02: each is run and printed.  Exit status 1 if
- * one differs.
+ * No. 11, No. 13 and No. 14 of document 02: each is run and printed.  Exit status
+ * 1 if one differs.
  *
- *     cc -std=c11 -Wall -Wextra -Werror -O2 -I../host step.c batch.c check.c count.c session.c record.c test.c -o test &&
- *         ./test
+ *     cc -std=c11 -Wall -Wextra -Werror -O2 -I../host step.c batch.c check.c count.c session.c record.c instruction.c \
+ *         test.c -o test && ./test
  */
 #include "second.h"
 #include "words.h"
@@ -2403,6 +2403,243 @@ static void run_retired(void)
     run_old_signal();
 }
 
+/* No. 14: the parts, in the order of their bytes. */
+struct instruction {
+    uint32_t code, a, condition, reg;
+};
+
+/* No. 14: how many of each part there are, of both codes, and so how many of all; "Exactly 28,800" in our readings. */
+enum {
+    ALL_A = 64,
+    ALL_CONDITIONS = 15,
+    ALL_REGISTERS = 15,
+    ALL_INSTRUCTIONS = 28800
+};
+
+static bool is_same_instruction(struct instruction one, struct instruction other)
+{
+    return one.code == other.code && one.a == other.a && one.condition == other.condition && one.reg == other.reg;
+}
+
+/* No. 14: the number of a reading, and the parts that it leaves where there were others. */
+static uint32_t read_instruction(uint32_t word, struct instruction *read)
+{
+    uint8_t parts[PARTS_SIZE];
+    uint32_t number;
+
+    memset(parts, 0xAA, sizeof parts);
+    number = second_read_instruction(word, parts, sizeof parts);
+    *read = (struct instruction){ get_word(parts), get_word(parts + 4), get_word(parts + 8), get_word(parts + 12) };
+    return number;
+}
+
+/* No. 14: the number of a writing, and the word that it leaves where there was another. */
+static uint32_t write_instruction(struct instruction parts, uint32_t *written)
+{
+    uint8_t word[WORD_SIZE];
+    uint32_t number;
+
+    memset(word, 0xAA, sizeof word);
+    number = second_write_instruction(parts.code, parts.a, parts.condition, parts.reg, word, sizeof word);
+    *written = get_word(word);
+    return number;
+}
+
+/* No. 14: whether a word is NOT_BANKED, "with the parts [...] 0". */
+static bool is_no_instruction(uint32_t word)
+{
+    struct instruction read;
+
+    return read_instruction(word, &read) == NOT_BANKED && is_same_instruction(read, (struct instruction){ 0, 0, 0, 0 });
+}
+
+/* No. 14: whether parts are NOT_BANKED, with "the word 0". */
+static bool are_no_parts(struct instruction parts)
+{
+    uint32_t written;
+
+    return write_instruction(parts, &written) == NOT_BANKED && written == 0;
+}
+
+/* No. 14: whether "Reading what was written gives the same parts, and a word that is read is written back identically". */
+static bool is_read_and_written(uint32_t word, struct instruction parts)
+{
+    struct instruction read;
+    uint32_t written;
+
+    return read_instruction(word, &read) == DONE && is_same_instruction(read, parts) &&
+           write_instruction(parts, &written) == DONE && written == word;
+}
+
+/* No. 14: words put together by hand from the pages; the first two are of our readings.  A 7 has no register, nor has A 63. */
+static const struct {
+    const char *name;
+    uint32_t word;
+    struct instruction parts;
+} INSTRUCTIONS[] = {
+    { "MRS r2, R8_usr", 0xE1002200, { CODE_BANKED_READ, 0, 14, 2 } },
+    { "MSR R8_usr, r2", 0xE120F202, { CODE_BANKED_WRITE, 0, 14, 2 } },
+    { "MRSEQ lr, SPSR_hyp", 0x014EE300, { CODE_BANKED_READ, 62, 0, 14 } },
+    { "MSRLE SPSR_fiq, r0", 0xD16EF200, { CODE_BANKED_WRITE, 46, 13, 0 } },
+    { "MRSNE r1, LR_irq", 0x11001300, { CODE_BANKED_READ, 16, 1, 1 } },
+    { "MSR SP_hyp, r12", 0xE12FF30C, { CODE_BANKED_WRITE, 31, 14, 12 } },
+    { "MRS r0, A 7", 0xE1070200, { CODE_BANKED_READ, 7, 14, 0 } },
+    { "MSRHI A 63, r8", 0x816FF308, { CODE_BANKED_WRITE, 63, 8, 8 } },
+};
+
+/* No. 14: words that come near, put together in the same way. */
+static const struct {
+    const char *name;
+    uint32_t word;
+} NO_INSTRUCTIONS[] = {
+    { "MRS, condition 15", 0xF1002200 }, { "MSR, condition 15", 0xF120F202 },
+    { "MRS, register 15", 0xE100F200 }, { "MSR, register 15", 0xE120F20F },
+    { "both 15", 0xF100F200 },
+    { "MRS r2, CPSR", 0xE10F2000 }, { "MSR CPSR_c, r2", 0xE121F002 }, { "MSR CPSR_c, #0", 0xE321F000 },
+    { "BX lr", 0xE12FFF1E }, { "SMC #0", 0xE1600070 }, { "zeros", 0 }, { "ones", UINT32_MAX },
+};
+
+static void run_words(void)
+{
+    for (size_t i = 0; i < sizeof INSTRUCTIONS / sizeof INSTRUCTIONS[0]; i++) {
+        printf("%-18s  %08lX", INSTRUCTIONS[i].name, (unsigned long)INSTRUCTIONS[i].word);
+        tell(is_read_and_written(INSTRUCTIONS[i].word, INSTRUCTIONS[i].parts));
+    }
+    for (size_t i = 0; i < sizeof NO_INSTRUCTIONS / sizeof NO_INSTRUCTIONS[0]; i++) {
+        printf("%-18s  %08lX not banked", NO_INSTRUCTIONS[i].name, (unsigned long)NO_INSTRUCTIONS[i].word);
+        tell(is_no_instruction(NO_INSTRUCTIONS[i].word));
+    }
+}
+
+/* No. 14: the bits that a page gives and the should-be bits among them, and the bits that may hold a 15. */
+static const struct {
+    const char *name;
+    uint32_t code, given, should_be, condition, reg;
+} PAGES[] = {
+    { "MRS", CODE_BANKED_READ, 0x0FB00EFF, 0x00000C0F, 0xF0000000, 0x0000F000 },
+    { "MSR", CODE_BANKED_WRITE, 0x0FB0FEF0, 0x0000FC00, 0xF0000000, 0x0000000F },
+};
+
+enum {
+    PAGE_COUNT = sizeof PAGES / sizeof PAGES[0],
+    WORD_BITS = 32
+};
+
+/* No. 14: how many bits of these, turned over alone, make a word of the page NOT_BANKED. */
+static uint32_t refused_turns(uint32_t word, uint32_t bits)
+{
+    uint32_t refused = 0;
+
+    for (uint32_t bit = 0; bit < WORD_BITS; bit++)
+        refused += (bits >> bit & 1) != 0 && is_no_instruction(word ^ UINT32_C(1) << bit);
+    return refused;
+}
+
+static uint32_t count_of_bits(uint32_t bits)
+{
+    uint32_t count = 0;
+
+    for (uint32_t bit = 0; bit < WORD_BITS; bit++)
+        count += bits >> bit & 1;
+    return count;
+}
+
+/* No. 14: what was met on a page. */
+struct page_met {
+    uint32_t instructions, right, should_be, given, fifteens;
+};
+
+/* No. 14: one instruction: both ways; each given bit turned over; its condition made 15, and its register. */
+static void meet_instruction(size_t page, struct instruction parts, struct page_met *met)
+{
+    uint32_t word;
+
+    met->instructions += write_instruction(parts, &word) == DONE;
+    met->right += is_read_and_written(word, parts);
+    met->should_be += refused_turns(word, PAGES[page].should_be);
+    met->given += refused_turns(word, PAGES[page].given);
+    met->fifteens += is_no_instruction(word | PAGES[page].condition) && is_no_instruction(word | PAGES[page].reg);
+}
+
+/* No. 14: every instruction of a page; how many there are. */
+static uint32_t run_page(size_t page)
+{
+    struct page_met met = { 0, 0, 0, 0, 0 };
+    struct instruction parts = { .code = PAGES[page].code };
+
+    for (parts.a = 0; parts.a < ALL_A; parts.a++)
+        for (parts.condition = 0; parts.condition < ALL_CONDITIONS; parts.condition++)
+            for (parts.reg = 0; parts.reg < ALL_REGISTERS; parts.reg++)
+                meet_instruction(page, parts, &met);
+    printf("%-12s  %u words, %u read as written; refused: %u should-be bits, %u given bits, %u with a 15", PAGES[page].name,
+           (unsigned)met.instructions, (unsigned)met.right, (unsigned)met.should_be, (unsigned)met.given,
+           (unsigned)met.fifteens);
+    tell(met.right == met.instructions && met.fifteens == met.instructions &&
+         met.should_be == count_of_bits(PAGES[page].should_be) * met.instructions &&
+         met.given == count_of_bits(PAGES[page].given) * met.instructions);
+    return met.instructions;
+}
+
+static void run_pages(void)
+{
+    uint32_t instructions = 0;
+
+    for (size_t page = 0; page < PAGE_COUNT; page++)
+        instructions += run_page(page);
+    printf("%-12s  %u words", "both", (unsigned)instructions);
+    tell(instructions == ALL_INSTRUCTIONS);
+}
+
+/* No. 14: a part that is out of its range, the others as in the examples. */
+static void run_parts(void)
+{
+    static const struct {
+        const char *name;
+        struct instruction parts;
+    } CASES_OF_PARTS[] = {
+        { "code 0", { 0, 0, 14, 2 } }, { "code 9", { CODE_INTERRUPT_CHECK, 0, 14, 2 } }, { "code 12", { CODE_NOTE, 0, 14, 2 } },
+        { "code 266", { 0x100 + CODE_BANKED_READ, 0, 14, 2 } }, { "code, any", { UINT32_MAX, 0, 14, 2 } },
+        { "A 64", { CODE_BANKED_READ, 64, 14, 2 } }, { "A, any", { CODE_BANKED_WRITE, UINT32_MAX, 14, 2 } },
+        { "condition 15", { CODE_BANKED_READ, 0, 15, 2 } }, { "condition 16", { CODE_BANKED_WRITE, 0, 16, 2 } },
+        { "condition, any", { CODE_BANKED_READ, 0, UINT32_MAX, 2 } },
+        { "register 15", { CODE_BANKED_READ, 0, 14, 15 } }, { "register 16", { CODE_BANKED_WRITE, 0, 14, 16 } },
+        { "register, any", { CODE_BANKED_WRITE, 0, 14, UINT32_MAX } },
+    };
+
+    for (size_t i = 0; i < sizeof CASES_OF_PARTS / sizeof CASES_OF_PARTS[0]; i++) {
+        printf("%-14s  not banked", CASES_OF_PARTS[i].name);
+        tell(are_no_parts(CASES_OF_PARTS[i].parts));
+    }
+}
+
+/* No. 14: parts and a word of another size: BAD_SIZE, and nothing is written. */
+static void run_instruction_sizes(void)
+{
+    uint8_t bytes[2 * PARTS_SIZE], before[2 * PARTS_SIZE];
+    unsigned refused = 0;
+
+    memset(before, 0xAA, sizeof before);
+    memcpy(bytes, before, sizeof bytes);
+    for (size_t size = 0; size <= sizeof bytes; size++) {
+        if (size != PARTS_SIZE)
+            refused += second_read_instruction(INSTRUCTIONS[0].word, bytes, size) == BAD_SIZE;
+        if (size != WORD_SIZE)
+            refused += second_write_instruction(CODE_BANKED_READ, 0, 14, 2, bytes, size) == BAD_SIZE;
+    }
+    refused += second_read_instruction(INSTRUCTIONS[0].word, NULL, 0) == BAD_SIZE;
+    refused += second_write_instruction(CODE_BANKED_READ, 0, 14, 2, NULL, 0) == BAD_SIZE;
+    printf("%-12s  %u refused", "sizes", refused);
+    tell(refused == 2 * sizeof bytes + 2 && memcmp(bytes, before, sizeof bytes) == 0);
+}
+
+static void run_instructions(void)
+{
+    run_words();
+    run_pages();
+    run_parts();
+    run_instruction_sizes();
+}
+
 int main(void)
 {
     for (size_t i = 0; i < CASE_COUNT; i++)
@@ -2423,6 +2660,7 @@ int main(void)
     run_denials();
     run_layouts();
     run_retired();
+    run_instructions();
     printf("%u passed, %u failed\n", run - differing, differing);
     return differing == 0 ? 0 : 1;
 }

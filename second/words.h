@@ -1,7 +1,7 @@
 /*
  * The words of document 01: its names for places, modes, events, numbers, bits
  * and the parts of a record, and how a word lies in bytes.  No. 1, No. 6, No. 7,
- * No. 8, No. 9, No. 10, No. 11 and No. 13 are those of document 02.
+ * No. 8, No. 9, No. 10, No. 11, No. 13 and No. 14 are those of document 02.
  */
 #ifndef WORDS_H
 #define WORDS_H
@@ -122,7 +122,7 @@ enum line_bits {
 
 /*
  * Answer numbers: 0 to 7 of a step, 16 (No. 8) and 17 (No. 10); 0 and 8 to 12 of the checker (The trace); 13 and 15 of counts
- * (No. 1); 14 of a feeding (No. 6); 0, 1, 10 and 15 of the recorder (No. 7).
+ * (No. 1); 14 of a feeding (No. 6); 0, 1, 10 and 15 of the recorder (No. 7); 0, 1 and 18 of an instruction word (No. 14).
  */
 enum number {
     DONE = 0,
@@ -142,17 +142,20 @@ enum number {
     CLOSED = 14,
     NO_ROOM = 15,
     DISABLED = 16,
-    OWN_REGISTER = 17
+    OWN_REGISTER = 17,
+    NOT_BANKED = 18
 };
 
-/* The state block, Answer numbers, The trace, No. 1: sizes in bytes; No. 11: the block "has 180 bytes". */
+/* The state block, Answer numbers, The trace, No. 1, No. 14: sizes in bytes; No. 11: the block "has 180 bytes". */
 enum size {
     BLOCK_SIZE = 4 * PLACES,
     OLD_BLOCK_SIZE = 4 * OLD_PLACES, /* in the old layout */
     ANSWER_SIZE = 8,
     REPORT_SIZE = 12,
     COUNTS_SIZE = 512,
-    LINES_SIZE = 2048 /* enough for the lines of any counts */
+    LINES_SIZE = 2048, /* enough for the lines of any counts */
+    PARTS_SIZE = 16,   /* code, A, condition and register of an instruction */
+    WORD_SIZE = 4
 };
 
 /* No. 11: "in the old layout or the new". */

@@ -387,7 +387,7 @@ def limit_steps(form):
     """Steps of every code and of none, with operands, answer numbers and values at their limits and right behind them."""
     for code, a, (number, value) in itertools.product(
             range(15), (2, 3, 4, 5, 8, 9, 31, 32, 43, 44, 45, 63, 64),
-            ((0, 6 << 16), (0, 7 << 16), (4, 0), (14, 0), (15, 0), (16, 0), (17, 0))):
+            ((0, 6 << 16), (0, 7 << 16), (4, 0), (14, 0), (15, 0), (16, 0), (17, 0), (18, 0))):
         words = struct.pack('<HHIIIII', form.step_size, form.step_kind, code, a, 0, number, value)
         yield words + bytes(form.block_size)
 

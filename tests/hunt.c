@@ -2,9 +2,10 @@
  * A mutant of the second implementation against the second implementation, on
  * the questions and traces that the comparisons use, up to the first
  * difference: so many steps, so many lists of events, so many traces to judge,
- * so many to count, so many sessions, and so many lists to record.
+ * so many to count, so many sessions, so many lists to record, and so many
+ * instruction words to read and to write.
  *
- *     hunt STEPS LISTS TRACES COUNTED SESSIONS RECORDED SEED
+ *     hunt STEPS LISTS TRACES COUNTED SESSIONS RECORDED INSTRUCTIONS SEED
  *
  * Status 0: no difference was found; 3: one was.  A mutant that does not come
  * to an end, or does what no step may, is ended by a signal.
@@ -16,6 +17,7 @@
 #include "any_session.h"
 #include "counting.h"
 #include "edge.h"
+#include "encoding.h"
 #include "question.h"
 #include "traces.h"
 
@@ -42,6 +44,8 @@ open_function mutant_open;
 feed_function mutant_feed;
 close_function mutant_close;
 record_function mutant_record;
+read_function mutant_read_instruction;
+write_function mutant_write_instruction;
 
 enum {
     FOUND = 3,
@@ -51,6 +55,7 @@ enum {
     A_FEW_TRACES = 64,
     A_FEW_SESSIONS = 64,
     A_FEW_RECORDINGS = 64,
+    A_FEW_WORDS = 4096,
     MOST_STEPS = 65535,
     LONGEST = START_SIZE + MOST_STEPS * STEP_SIZE + END_SIZE,
     LONGEST_BUFFER = GUARD_SIZE + LONGEST + STEP_SIZE
@@ -327,13 +332,46 @@ static bool do_longest_records_differ(struct chance *chance)
     return false;
 }
 
+static bool do_words_differ(struct chance *chance)
+{
+    const uint32_t word = any_instruction_word(chance);
+    const size_t parts_len = any_size(chance, PARTS_SIZE);
+    struct encoded ours, theirs;
+
+    call_read(second_read_instruction, word, parts_len, &ours);
+    call_read(mutant_read_instruction, word, parts_len, &theirs);
+    return encoding_difference(&ours, &theirs) != NULL;
+}
+
+static bool do_parts_differ(struct chance *chance)
+{
+    const struct parts parts = any_parts(chance);
+    const size_t word_len = any_size(chance, WORD_SIZE);
+    struct encoded ours, theirs;
+
+    call_write(second_write_instruction, &parts, word_len, &ours);
+    call_write(mutant_write_instruction, &parts, word_len, &theirs);
+    return encoding_difference(&ours, &theirs) != NULL;
+}
+
+static bool do_instructions_differ(struct chance *chance, unsigned long instructions)
+{
+    for (unsigned long i = 0; i < instructions; i++) {
+        if (i % A_FEW_WORDS == 0)
+            alarm(PATIENCE);
+        if (do_words_differ(chance) || do_parts_differ(chance))
+            return true;
+    }
+    return false;
+}
+
 int main(int argc, char **argv)
 {
     struct chance chance = { .seed = 0 };
-    unsigned long steps, lists, traces, counted, sessions, recorded;
+    unsigned long steps, lists, traces, counted, sessions, recorded, instructions;
 
-    if (argc != 8) {
-        fprintf(stderr, "usage: hunt STEPS LISTS TRACES COUNTED SESSIONS RECORDED SEED\n");
+    if (argc != 9) {
+        fprintf(stderr, "usage: hunt STEPS LISTS TRACES COUNTED SESSIONS RECORDED INSTRUCTIONS SEED\n");
         return 2;
     }
     steps = strtoul(argv[1], NULL, 10);
@@ -342,13 +380,14 @@ int main(int argc, char **argv)
     counted = strtoul(argv[4], NULL, 10);
     sessions = strtoul(argv[5], NULL, 10);
     recorded = strtoul(argv[6], NULL, 10);
-    chance.seed = strtoull(argv[7], NULL, 10);
+    instructions = strtoul(argv[7], NULL, 10);
+    chance.seed = strtoull(argv[8], NULL, 10);
     open_edge(LONGEST);
     open_recorded(&our_recorded, LONGEST_BUFFER);
     open_recorded(&their_recorded, LONGEST_BUFFER);
     if (do_steps_differ(&chance, steps) || do_lists_differ(&chance, lists) || do_traces_differ(&chance, traces) ||
         does_counting_differ(&chance, counted) || do_sessions_differ(&chance, sessions) ||
-        do_recordings_differ(&chance, recorded))
+        do_recordings_differ(&chance, recorded) || do_instructions_differ(&chance, instructions))
         return FOUND;
     if (recorded != 0 && do_longest_records_differ(&chance))
         return FOUND;

@@ -18,6 +18,8 @@ SCRIPT = os.path.abspath(sys.argv[1])
 # Of a session: the most Steps refused, the other layout, a byte too many held, a head judged too often, a block kept,
 # a feeding after closing.
 # Of a recording: the most events refused, room that just does, bytes before the offset as room, no end of the buffer, no kind.
+# Of an instruction word: a bit of a field in the other one's place, a should-be bit not asked, any bit given, condition 15,
+# register 15, A 64, parts and a word that are left as they were, a buffer too long.
 KILLED = [
     *(f'LARGEST: [CODE_{code}] = {{ {a}, [[0 => 1]] }},' for code, a in [
         ('UNDEFINED', 0), ('SVC', 0), ('SMC', 0), ('HVC', 0), ('PREFETCH_ABORT', 4), ('DATA_ABORT', 3), ('HYP_TRAP', 0),
@@ -71,6 +73,15 @@ KILLED = [
     'has_room: return buffer_len [[- => +]] offset >= length;',
     'has_room: [[return false => ]];',
     'write_header: [[put_half(bytes + 2, record.kind) => ]];',
+    'PLACE: [R] = { PART_A, [[5 => 4]] },',
+    'ENCODING: { [[15 => 14]], 12, .given = 0xF },',
+    'has_given_bits: [[return false => ]];',
+    'enum largest: LARGEST_CONDITION = [[14 => 15]],',
+    'enum largest: LARGEST_REGISTER = [[14 => 15]]',
+    'enum largest: LARGEST_A = [[63 => 64]],',
+    'second_read_instruction: [[put_parts(parts, NO_PARTS) => ]];',
+    'second_write_instruction: [[put_word(word, 0) => ]];',
+    'second_read_instruction: if (parts_len [[!= => <]] PARTS_SIZE)',
 ]
 LIVING = 'LARGEST: [[[CODE_SVC => CODE_SMC]]] = { 0, 0 },'
 NO_MUTANT = 'is_one: return [[nothing => something]];'

@@ -8,7 +8,7 @@
 #include <stdint.h>
 
 enum {
-    LAST_NUMBER = POMURICA_OWN_REGISTER, /* of all that there are */
+    LAST_NUMBER = POMURICA_NOT_BANKED,       /* of all that there are */
     STEP_NUMBERS = POMURICA_OWN_REGISTER + 1 /* to count those of a step by */
 };
 

@@ -72,8 +72,9 @@ def failing_file(content):
     library.mmap.restype = ctypes.c_void_p
     library.mmap.argtypes = [ctypes.c_void_p, ctypes.c_size_t, *3 * [ctypes.c_int], ctypes.c_long]
     library.munmap.argtypes = [ctypes.c_void_p, ctypes.c_size_t]
-    end = mmap.PAGESIZE + library.mmap(None, 2 * mmap.PAGESIZE, mmap.PROT_READ | mmap.PROT_WRITE,
-                                       mmap.MAP_PRIVATE | mmap.MAP_ANONYMOUS, -1, 0)
+    size = (len(content) // mmap.PAGESIZE + 1) * mmap.PAGESIZE
+    end = size + library.mmap(None, size + mmap.PAGESIZE, mmap.PROT_READ | mmap.PROT_WRITE,
+                              mmap.MAP_PRIVATE | mmap.MAP_ANONYMOUS, -1, 0)
     ctypes.memmove(end - len(content), content, len(content))
     library.munmap(end, mmap.PAGESIZE)
     file = open('/proc/self/mem', 'rb', buffering=0)

@@ -14,7 +14,7 @@ def any_of(*patterns):
 # The parts of sentences: numbers, names, and what is told of a Step.
 NUMBER, COUNT, BYTE, WORD = '[0-9]+', '[0-9]{1,3}(,[0-9]{3})*', '0x[0-9A-F]{2}', '0x[0-9A-F]{8}'
 ANSWER = f'{NUMBER} ' + any_of(*'DONE BAD_SIZE BAD_MODE BAD_STATE BAD_EVENT NOT_HERE NO_REGISTER NO_RIGHT SHORT BAD_RECORD '
-                               'BAD_COUNT WRONG_STEP TRAILING FULL CLOSED NO_ROOM DISABLED OWN_REGISTER UNKNOWN'.split())
+                               'BAD_COUNT WRONG_STEP TRAILING FULL CLOSED NO_ROOM DISABLED OWN_REGISTER NOT_BANKED UNKNOWN'.split())
 REASONED = any_of(r'16 DISABLED \(HVC is disabled: SCR\.HCE is 0\)', r'16 DISABLED \(SMC is disabled: SCR\.SCD is 1\)',
                   r'3 BAD_STATE \(bits 24-21 of the saved word are not 0\)',
                   r'4 BAD_EVENT \(not known in the old layout\)',

@@ -1,6 +1,7 @@
 /*
- * A step, a batch, a checker, a count, a session and a recorder that are always
- * wrong, to see what a comparison says of them.
+ * A step, a batch, a checker, a count, a session, a recorder and a reader and a
+ * writer of instruction words that are always wrong, to see what a comparison
+ * says of them.
  */
 #include "pomurica.h"
 
@@ -71,5 +72,18 @@ uint32_t wrong_record(const uint8_t *block, size_t block_len,
                       uint8_t *buffer, size_t buffer_len, size_t offset)
 {
     (void)block, (void)block_len, (void)events, (void)events_len, (void)buffer, (void)buffer_len, (void)offset;
+    return NO_NUMBER;
+}
+
+uint32_t wrong_read_instruction(uint32_t word, uint8_t *parts, size_t parts_len)
+{
+    (void)word, (void)parts, (void)parts_len;
+    return NO_NUMBER;
+}
+
+uint32_t wrong_write_instruction(uint32_t code, uint32_t a, uint32_t condition, uint32_t reg,
+                                 uint8_t *word, size_t word_len)
+{
+    (void)code, (void)a, (void)condition, (void)reg, (void)word, (void)word_len;
     return NO_NUMBER;
 }

@@ -11,16 +11,17 @@ import tempfile
 from mutations import SKIPPED, Names, changes_of, items_of
 
 ROOT = os.path.dirname(os.path.dirname(os.path.abspath(__file__)))
-MUTATED = ['second/step.c', 'second/batch.c', 'second/check.c', 'second/count.c', 'second/session.c', 'second/record.c']
+MUTATED = ['second/step.c', 'second/batch.c', 'second/check.c', 'second/count.c', 'second/session.c', 'second/record.c',
+           'second/instruction.c']
 NAMING = ['second/words.h', 'second/records.h']  # what they include: constants that stand in place of each other
 # The rules of the old layout are asked for by the checker alone, and the checker's own words also by a session.
 ALSO_MET = {'second/step.c': 'second/check.c', 'second/check.c': 'second/session.c'}
 HUNTING = ['hunt', 'question', 'any_list', 'lists', 'any_recording', 'recordings', 'events', 'any_session', 'counting',
-           'chance', 'lent', 'traces', 'edge']
+           'encoding', 'chance', 'lent', 'traces', 'edge']
 DRIVER = [*(f'tests/{name}.c' for name in HUNTING), *MUTATED]
 COMPILER = ['gcc', '-std=c11', '-O1', '-w', '-Isecond', '-Ihost']
 NAMES = ['step', 'step_in', 'batch', 'check', 'is_due', 'layout_of', 'take_block', 'is_right_step', 'count',
-         'count_lines', 'open', 'feed', 'close', 'record']
+         'count_lines', 'open', 'feed', 'close', 'record', 'read_instruction', 'write_instruction']
 RENAMED = [f'-Dsecond_{name}=mutant_{name}' for name in NAMES]  # a mutant has its own names
 # One that lives meets a tenth as much again under the sanitizers: it may have left an array and gone on by luck.
 SANITIZED = ['-fsanitize=address,undefined', '-fno-sanitize-recover=all']
@@ -101,8 +102,9 @@ class Hunt:
         return program if subprocess.run(command, cwd=ROOT, stderr=subprocess.DEVNULL, check=False).returncode == 0 else None
 
     def meet(self, program, mutant, part):
-        """What the program says of so great a part of the steps, lists, traces to judge, to count or to record, or sessions."""
-        wanted = [self.wanted.steps, *5 * [self.wanted.traces]]
+        """What the program says of so great a part of the steps, lists, traces to judge or to count, sessions, recordings or
+        instruction words, of which there are as many as steps."""
+        wanted = [self.wanted.steps, *5 * [self.wanted.traces], self.wanted.steps]
         met = [mutant.path, ALSO_MET.get(mutant.path)]
         counts = [number // part if path in met else 0 for path, number in zip(MUTATED, wanted)]
         command = [program, *map(str, counts), str(self.wanted.seed)]

@@ -3,6 +3,7 @@ pub mod Check
 pub mod Count
 pub mod Explain
 pub mod Guest
+pub mod Instruction
 pub mod Reference
 pub mod Session
 pub mod Theorems

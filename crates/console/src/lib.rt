@@ -4,5 +4,6 @@ pub mod check;
 pub mod counting;
 pub mod explanation;
 pub mod feeding;
+pub mod instructions;
 pub mod recording;
 pub mod step;

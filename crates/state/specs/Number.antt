@@ -58,3 +58,7 @@ CLOSED = 14
 
 abbrev pub NO-ROOM : ℕ
 NO-ROOM = 15
+
+-- of who reads and writes instruction words (No. 14)
+abbrev pub NOT-BANKED : ℕ
+NOT-BANKED = 18

@@ -37,3 +37,6 @@ pub const FULL: u32 = 13;
 pub const CLOSED: u32 = 14;
 
 pub const NO_ROOM: u32 = 15;
+
+// Of who reads and writes instruction words (No. 14):
+pub const NOT_BANKED: u32 = 18;

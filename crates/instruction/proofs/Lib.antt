@@ -1,0 +1,5 @@
+pub mod Tables
+pub mod Tests
+pub mod Reading
+pub mod Writing
+pub mod Theorems

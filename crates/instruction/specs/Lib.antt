@@ -1,0 +1,4 @@
+pub mod Encoding
+pub mod Instruction
+pub mod Places
+pub mod Theorems
