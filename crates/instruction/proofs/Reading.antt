@@ -1,16 +1,14 @@
 -- The parts of a word, by the places that the two tables give its fields.
 use mathlib.Core.Path.{_≡_, refl, sym, ap, _∙_}
-use mathlib.Core.Bool.{Bool, true, false, _&&_, and-false}
+use mathlib.Core.Bool.{true, false}
 use Prim.Native.Nat.{ℕ, _+_, _*_, _/_, _%_, _^_, _<_}
 use native.Mathlib.Omega.{arith}
-use borrow.Author.Tests.{eqb-true, ne-eqb}
-use Rattle.state.specs.Choice.{if_then_else_, _is_}
-use Rattle.state.proofs.Test.{and-left, and-right}
+use Rattle.state.specs.Choice.{if_then_else_}
 use Rattle.entry.specs.Code.{BANKED-READ, BANKED-WRITE}
 use Rattle.instruction.specs.Encoding.{MRS, MSR}
 use Rattle.instruction.specs.Instruction.{Parts, laidOut, inRange, partsIn, no-parts, reading}
 use Rattle.instruction.specs.Places.{aIn}
-use Rattle.instruction.proofs.Tests.{msr-tests}
+use Rattle.instruction.proofs.Tests.{not-both}
 
 abbrev pub mrsParts : ℕ → Parts
 mrsParts w = record { code = BANKED-READ; a = aIn w; condition = w / 0x10000000; register = w / 0x1000 % 16 }
@@ -38,19 +36,11 @@ module _ (w : ℕ) (small : w < 2 ^ 32) where
       let register : parts .register ≡ w % 16 = omega arith in
       λ i. record { code = BANKED-WRITE; a = a i; condition = condition i; register = register i }
 
-  -- bits 21 and 20 tell them apart
-  pub not-both : laidOut MRS w ≡ true → laidOut MSR w ≡ false
-  not-both h =
-      let first = w / 0x800000 % 32 is 2 in
-      let op : w / 0x100000 % 4 ≡ 0 = eqb-true (w / 0x100000 % 4) 0 (and-left _ _ (and-right first _ h)) in
-      let other = ne-eqb (w / 0x100000 % 4) 2 (λ z. omega (arith, op, z)) in
-      sym (msr-tests w {a = first} refl other refl refl refl refl) ∙ and-false first
-
   -- ---- what is read
 
   pub read-mrs : laidOut MRS w ≡ true → ifInRange (mrsParts w) ≡ reading w
   unfolding reading
-  read-mrs h = ap ifInRange (sym mrs-parts) ∙ rw (h, not-both h) refl
+  read-mrs h = ap ifInRange (sym mrs-parts) ∙ rw (h, not-both w h) refl
 
   pub read-msr : laidOut MRS w ≡ false → laidOut MSR w ≡ true → ifInRange (msrParts w) ≡ reading w
   unfolding reading

@@ -1,5 +1,5 @@
--- Reading and writing undo each other. What is true of both tables is proved over any that tiles a word (Tables.antt); each table has its
--- five named fields.
+-- Reading and writing undo each other. What is true of both tables is proved over any that tiles a word (Tables.antt), and what is done
+-- by either over any that has what each of the two has (Kept).
 use mathlib.Core.Path.{_≡_, refl, sym, ap, subst, _∙_}
 use mathlib.Core.Bool.{Bool, true, false, _&&_, _||_}
 use mathlib.Core.List.{List, [], _∷_}
@@ -19,8 +19,8 @@ use Rattle.instruction.specs.Instruction.{inRange, isOf, no-parts, isRea
 use Rattle.instruction.specs.Instruction.{writing, writeNumber}
 use Rattle.instruction.specs.Places.{aIn}
 use Rattle.instruction.specs.Theorems.{Written, InstructionTheorems}
-use Rattle.instruction.proofs.Reading.{not-both}
 use Rattle.instruction.proofs.Tables.{Tiles, tiled, Each, unit, whole, below, put-is-in, same-total}
+use Rattle.instruction.proofs.Tests.{not-both}
 use Rattle.instruction.proofs.Writing.{inRanges, ranges, mrs-word, msr-word}
 
 -- ---- a field by its value
@@ -63,66 +63,42 @@ word-back : (p : Parts) (w : ℕ) (fs : List Field) → w < 2 ^ 32 → Tiles 32 
 word-back p w fs small tiles h =
     same-total unit (fieldOf p) (λ f. in-word f w) fs h ∙ whole 32 fs w tiles ∙ mod-eq-of-lt small
 
--- ---- the two
+-- ---- what each of the two tables has
 
-tiles-mrs : Tiles 32 MRS
-tiles-mrs = tiled 32 MRS refl
+-- of the table of a code: it tiles a word; what is put into its fields fits; the parts of a word that parts were put into are those; and
+-- the parts of a word give its fields back
+record Kept (code : ℕ) : Type 0 where
+  banked : (code is BANKED-READ || code is BANKED-WRITE) ≡ true
+  tiles : Tiles 32 (encoding code)
+  fits : (p : Parts) → inRanges p ≡ true → Each (λ f. fieldOf p f < values f) (encoding code)
+  parts : (p : Parts) → inRanges p ≡ true → p .code ≡ code → (w : ℕ) → Each (λ f. in-word f w ≡ fieldOf p f) (encoding code)
+      → partsIn code w ≡ p
+  a-is : (w : ℕ) → partsIn code w .a ≡ aIn w
+  named : (w : ℕ) → Each (λ f. Free (f .value) (given (f .name) (partsIn code w) ≡ in-word f w)) (encoding code)
 
-tiles-msr : Tiles 32 MSR
-tiles-msr = tiled 32 MSR refl
+-- what is given to a field is below its values: condition, register, R, M and M1
+bounds : (p : Parts) → inRanges p ≡ true
+    → (p .condition < 16) × (p .register < 16) × (p .a / 32 < 2) × (p .a / 16 % 2 < 2) × (p .a % 16 < 16)
+bounds p h = let r = ranges p h in (omega (arith, r .1), omega (arith, r .2), omega (arith, r .0), omega arith, omega arith)
 
--- what is put into a field fits
-module _ (p : Parts) (a : p .a < 64) (c : p .condition < 15) (g : p .register < 15) where
-  fits-mrs : Each (λ f. fieldOf p f < values f) MRS
-  fits-mrs =
-      let condition : p .condition < 16 = omega (arith, c) in
-      let register : p .register < 16 = omega (arith, g) in
-      let r : p .a / 32 < 2 = omega (arith, a) in
-      let m : p .a / 16 % 2 < 2 = omega arith in
-      let m1 : p .a % 16 < 16 = omega arith in
-      (condition, (lit< tt, (r, (lit< tt, (m1, (register, (lit< tt, (lit< tt, (m, (lit< tt, (lit< tt, tt)))))))))))
+-- the parts, as they are read off a word with those fields
+module _ (p : Parts) (code w : ℕ) (e : p .code ≡ code) (h : Each (λ f. in-word f w ≡ fieldOf p f) (encoding code)) where
+  abbrev put-in : (Name → ℕ) → ℕ
+  put-in counts = total (λ f. counts (f .name)) (fieldOf p) (encoding code)
 
-  fits-msr : Each (λ f. fieldOf p f < values f) MSR
-  fits-msr =
-      let condition : p .condition < 16 = omega (arith, c) in
-      let register : p .register < 16 = omega (arith, g) in
-      let r : p .a / 32 < 2 = omega (arith, a) in
-      let m : p .a / 16 % 2 < 2 = omega arith in
-      let m1 : p .a % 16 < 16 = omega arith in
-      (condition, (lit< tt, (r, (lit< tt, (m1, (lit< tt, (lit< tt, (lit< tt, (m, (lit< tt, (register, tt)))))))))))
+  read-off : (counts : Name → ℕ) → total (λ f. counts (f .name)) (λ f. in-word f w) (encoding code) ≡ put-in counts
+  read-off counts = same-total (λ f. counts (f .name)) (λ f. in-word f w) (fieldOf p) (encoding code) h
 
-  -- and the parts of the word are the parts
-  record-is : {q : Parts} → p .code ≡ q .code → q .a ≡ p .a → q .condition ≡ p .condition → q .register ≡ p .register → q ≡ p
-  record-is e h k l = λ i. record { code = sym e i; a = h i; condition = k i; register = l i }
+  parts-are : put-in in-a ≡ p .a → put-in in-condition ≡ p .condition → put-in in-register ≡ p .register → partsIn code w ≡ p
+  parts-are a c g =
+      λ i. record {
+        code = sym e i;
+        a = (read-off in-a ∙ a) i;
+        condition = (read-off in-condition ∙ c) i;
+        register = (read-off in-register ∙ g) i;
+      }
 
-  read : (counts : Name → ℕ) (fs : List Field) (w : ℕ) → Each (λ f. in-word f w ≡ fieldOf p f) fs
-      → total (λ f. counts (f .name)) (λ f. in-word f w) fs ≡ total (λ f. counts (f .name)) (fieldOf p) fs
-  read counts fs w h = same-total (λ f. counts (f .name)) (λ f. in-word f w) (fieldOf p) fs h
-
-  parts-mrs : p .code ≡ BANKED-READ → (w : ℕ) → Each (λ f. in-word f w ≡ fieldOf p f) MRS → partsIn BANKED-READ w ≡ p
-  parts-mrs e w h =
-      let a-is : total (λ f. in-a (f .name)) (fieldOf p) MRS ≡ p .a = omega (arith, a) in
-      let condition-is : total (λ f. in-condition (f .name)) (fieldOf p) MRS ≡ p .condition = omega arith in
-      let register-is : total (λ f. in-register (f .name)) (fieldOf p) MRS ≡ p .register = omega arith in
-      record-is e (read in-a MRS w h ∙ a-is) (read in-condition MRS w h ∙ condition-is) (read in-register MRS w h ∙ register-is)
-
-  parts-msr : p .code ≡ BANKED-WRITE → (w : ℕ) → Each (λ f. in-word f w ≡ fieldOf p f) MSR → partsIn BANKED-WRITE w ≡ p
-  parts-msr e w h =
-      let a-is : total (λ f. in-a (f .name)) (fieldOf p) MSR ≡ p .a = omega (arith, a) in
-      let condition-is : total (λ f. in-condition (f .name)) (fieldOf p) MSR ≡ p .condition = omega arith in
-      let register-is : total (λ f. in-register (f .name)) (fieldOf p) MSR ≡ p .register = omega arith in
-      record-is e (read in-a MSR w h ∙ a-is) (read in-condition MSR w h ∙ condition-is) (read in-register MSR w h ∙ register-is)
-
--- the digits of A
-r-of : (r m n : ℕ) → r < 2 → m < 2 → n < 16 → (r * 32 + m * 16 + n) / 32 ≡ r
-r-of r m n h k l = omega arith
-
-m-of : (r m n : ℕ) → r < 2 → m < 2 → n < 16 → (r * 32 + m * 16 + n) / 16 % 2 ≡ m
-m-of r m n h k l = omega arith
-
-m1-of : (r m n : ℕ) → n < 16 → (r * 32 + m * 16 + n) % 16 ≡ n
-m1-of r m n l = omega arith
-
+-- the digits of A: R, M and M1
 module _ (w : ℕ) where
   abbrev r : ℕ
   r = w / 0x400000 % 2
@@ -133,37 +109,64 @@ module _ (w : ℕ) where
   abbrev m1 : ℕ
   m1 = w / 0x10000 % 16
 
-  r-below : r < 2
-  r-below = omega arith
+  below-each : (r < 2) × (m < 2) × (m1 < 16)
+  below-each = (omega arith, omega arith, omega arith)
 
-  m-below : m < 2
-  m-below = omega arith
+  digits : {a : ℕ} → a ≡ aIn w → (a / 32 ≡ r) × (a / 16 % 2 ≡ m) × (a % 16 ≡ m1)
+  digits e =
+      let b = below-each in (
+        ap (λ k. k / 32) e ∙ r-of r m m1 (b .0) (b .1) (b .2),
+        ap (λ k. k / 16 % 2) e ∙ m-of r m m1 (b .0) (b .1) (b .2),
+        ap (λ k. k % 16) e ∙ m1-of r m m1 (b .2),
+      )
+    where
+      r-of : (x y z : ℕ) → x < 2 → y < 2 → z < 16 → (x * 32 + y * 16 + z) / 32 ≡ x
+      r-of x y z h k l = omega arith
 
-  m1-below : m1 < 16
-  m1-below = omega arith
+      m-of : (x y z : ℕ) → x < 2 → y < 2 → z < 16 → (x * 32 + y * 16 + z) / 16 % 2 ≡ y
+      m-of x y z h k l = omega arith
 
-  -- so the parts of a word give its fields back
-  named-mrs : let p = partsIn BANKED-READ w in Each (λ f. Free (f .value) (given (f .name) p ≡ in-word f w)) MRS
-  named-mrs =
-      let p = partsIn BANKED-READ w in
-      let a : p .a ≡ aIn w = omega arith in
-      let condition : p .condition ≡ w / 2 ^ 28 % 16 = omega arith in
-      let register : p .register ≡ w / 2 ^ 12 % 16 = omega arith in
-      let for-r = ap (λ k. k / 32) a ∙ r-of r m m1 r-below m-below m1-below in
-      let for-m = ap (λ k. k / 16 % 2) a ∙ m-of r m m1 r-below m-below m1-below in
-      let for-m1 = ap (λ k. k % 16) a ∙ m1-of r m m1 m1-below in
-      (condition, (tt, (for-r, (tt, (for-m1, (register, (tt, (tt, (for-m, (tt, (tt, tt)))))))))))
+      m1-of : (x y z : ℕ) → z < 16 → (x * 32 + y * 16 + z) % 16 ≡ z
+      m1-of x y z l = omega arith
 
-  named-msr : let p = partsIn BANKED-WRITE w in Each (λ f. Free (f .value) (given (f .name) p ≡ in-word f w)) MSR
-  named-msr =
-      let p = partsIn BANKED-WRITE w in
-      let a : p .a ≡ aIn w = omega arith in
-      let condition : p .condition ≡ w / 2 ^ 28 % 16 = omega arith in
-      let register : p .register ≡ w / 2 ^ 0 % 16 = omega arith in
-      let for-r = ap (λ k. k / 32) a ∙ r-of r m m1 r-below m-below m1-below in
-      let for-m = ap (λ k. k / 16 % 2) a ∙ m-of r m m1 r-below m-below m1-below in
-      let for-m1 = ap (λ k. k % 16) a ∙ m1-of r m m1 m1-below in
-      (condition, (tt, (for-r, (tt, (for-m1, (tt, (tt, (tt, (for-m, (tt, (register, tt)))))))))))
+  a-below : aIn w < 64
+  a-below = let b = below-each in omega (arith, b .0, b .1, b .2)
+
+mrs : Kept BANKED-READ
+mrs =
+    record {
+      banked = refl;
+      tiles = tiled 32 MRS refl;
+      fits = λ p h. let b = bounds p h in
+          (b .0, (lit< tt, (b .2, (lit< tt, (b .4, (b .1, (lit< tt, (lit< tt, (b .3, (lit< tt, (lit< tt, tt)))))))))));
+      parts = λ p h e w k. parts-are p BANKED-READ w e k (omega (arith, ranges p h .0)) (omega arith) (omega arith);
+      a-is = λ w. omega arith;
+      named = λ w.
+          let p = partsIn BANKED-READ w in
+          let condition : p .condition ≡ w / 2 ^ 28 % 16 = omega arith in
+          let register : p .register ≡ w / 2 ^ 12 % 16 = omega arith in
+          let a : p .a ≡ aIn w = omega arith in
+          let d = digits w a in
+          (condition, (tt, (d .0, (tt, (d .2, (register, (tt, (tt, (d .1, (tt, (tt, tt)))))))))));
+    }
+
+msr : Kept BANKED-WRITE
+msr =
+    record {
+      banked = refl;
+      tiles = tiled 32 MSR refl;
+      fits = λ p h. let b = bounds p h in
+          (b .0, (lit< tt, (b .2, (lit< tt, (b .4, (lit< tt, (lit< tt, (lit< tt, (b .3, (lit< tt, (b .1, tt)))))))))));
+      parts = λ p h e w k. parts-are p BANKED-WRITE w e k (omega (arith, ranges p h .0)) (omega arith) (omega arith);
+      a-is = λ w. omega arith;
+      named = λ w.
+          let p = partsIn BANKED-WRITE w in
+          let condition : p .condition ≡ w / 2 ^ 28 % 16 = omega arith in
+          let register : p .register ≡ w / 2 ^ 0 % 16 = omega arith in
+          let a : p .a ≡ aIn w = omega arith in
+          let d = digits w a in
+          (condition, (tt, (d .0, (tt, (d .2, (tt, (tt, (tt, (d .1, (tt, (register, tt)))))))))));
+    }
 
 -- ---- reading what was written
 
@@ -187,38 +190,9 @@ module _ (p : Parts) (are : areParts p ≡ true) where
   in-ranges : inRanges p ≡ true
   in-ranges = and-right isBanked (inRanges p) are
 
-  in-range : inRange p ≡ true
-  in-range = and-right (ltb (p .a) 64) (inRange p) in-ranges
-
   written : writing p ≡ total unit (fieldOf p) (encoding (p .code))
   unfolding writing
   written = rw are refl
-
-  written-as : {k : ℕ} → p .code ≡ k → writing p ≡ total unit (fieldOf p) (encoding k)
-  written-as e = written ∙ ap (λ k. total unit (fieldOf p) (encoding k)) e
-
-  read-mrs : p .code ≡ BANKED-READ → ReadAs (writing p) p
-  read-mrs e =
-      let r = ranges p in-ranges in
-      let w = total unit (fieldOf p) MRS in
-      let fields = put-is-in 32 MRS (fieldOf p) tiles-mrs (fits-mrs p (r .0) (r .1) (r .2)) in
-      let parts = parts-mrs p (r .0) (r .1) (r .2) e w fields in
-      let of = both (laid-out p w MRS fields) (ap inRange parts ∙ in-range) in
-      subst (λ v. ReadAs v p) (sym (written-as e)) (as-mrs w p of parts)
-
-  read-msr : p .code ≡ BANKED-WRITE → ReadAs (writing p) p
-  read-msr e =
-      let r = ranges p in-ranges in
-      let w = total unit (fieldOf p) MSR in
-      let fits = fits-msr p (r .0) (r .1) (r .2) in
-      let fields = put-is-in 32 MSR (fieldOf p) tiles-msr fits in
-      let parts = parts-msr p (r .0) (r .1) (r .2) e w fields in
-      let out = laid-out p w MSR fields in
-      let of = both out (ap inRange parts ∙ in-range) in
-      let small = below 32 MSR (fieldOf p) tiles-msr fits in
-      let not-mrs = refuted (laidOut MRS w) (λ t. true-is-not-false out (not-both w small t)) in
-      let not-of = ap (λ t. t && inRange (partsIn BANKED-READ w)) not-mrs in
-      subst (λ v. ReadAs v p) (sym (written-as e)) (as-msr w p not-of of parts)
 
   -- the code is one of the two
   by-code : (P : Type 0) → (p .code ≡ BANKED-READ → P) → (p .code ≡ BANKED-WRITE → P) → P
@@ -230,15 +204,42 @@ module _ (p : Parts) (are : areParts p ≡ true) where
           let banked = and-left isBanked (inRanges p) are in
           write (eqb-true (p .code) BANKED-WRITE (ap (λ t. t || p .code is BANKED-WRITE) (sym h) ∙ banked))
 
+  -- by the table of that code
+  module _ {code : ℕ} (T : Kept code) (e : p .code ≡ code) where
+    abbrev word : ℕ
+    word = total unit (fieldOf p) (encoding code)
+
+    written-as : writing p ≡ word
+    written-as = written ∙ ap (λ k. total unit (fieldOf p) (encoding k)) e
+
+    fields : Each (λ f. in-word f word ≡ fieldOf p f) (encoding code)
+    fields = put-is-in 32 (encoding code) (fieldOf p) (T .tiles) (T .fits p in-ranges)
+
+    out : laidOut (encoding code) word ≡ true
+    out = laid-out p word (encoding code) fields
+
+    parts-back : partsIn code word ≡ p
+    parts-back = T .parts p in-ranges e word fields
+
+    is-of : isOf code word ≡ true
+    is-of = both out (ap inRange parts-back ∙ and-right (ltb (p .a) 64) (inRange p) in-ranges)
+
+    word-below : writing p < 2 ^ 32
+    word-below =
+        subst (λ v. v < 2 ^ 32) (sym written-as) (below 32 (encoding code) (fieldOf p) (T .tiles) (T .fits p in-ranges))
+
+  read-mrs : p .code ≡ BANKED-READ → ReadAs (writing p) p
+  read-mrs e = subst (λ v. ReadAs v p) (sym (written-as mrs e)) (as-mrs (word mrs e) p (is-of mrs e) (parts-back mrs e))
+
+  read-msr : p .code ≡ BANKED-WRITE → ReadAs (writing p) p
+  read-msr e =
+      let w = word msr e in
+      let not-mrs = refuted (laidOut MRS w) (λ t. true-is-not-false (out msr e) (not-both w t)) in
+      let not-of = ap (λ t. t && inRange (partsIn BANKED-READ w)) not-mrs in
+      subst (λ v. ReadAs v p) (sym (written-as msr e)) (as-msr w p not-of (is-of msr e) (parts-back msr e))
+
   read-back : ReadAs (writing p) p
   read-back = by-code (ReadAs (writing p) p) read-mrs read-msr
-
-  word-below : writing p < 2 ^ 32
-  word-below =
-      let r = ranges p in-ranges in
-      by-code (writing p < 2 ^ 32)
-      (λ e. subst (λ v. v < 2 ^ 32) (sym (written-as e)) (below 32 MRS (fieldOf p) tiles-mrs (fits-mrs p (r .0) (r .1) (r .2))))
-      (λ e. subst (λ v. v < 2 ^ 32) (sym (written-as e)) (below 32 MSR (fieldOf p) tiles-msr (fits-msr p (r .0) (r .1) (r .2))))
 
 -- ---- writing what was read
 
@@ -247,35 +248,24 @@ module _ (w : ℕ) (small : w < 2 ^ 32) where
   abbrev WrittenAs : Parts → Type 0
   WrittenAs p = (areParts p ≡ true) × (writing p ≡ w)
 
-  a-below : aIn w < 64
-  a-below = omega (arith, r-below w, m-below w, m1-below w)
-
-  write-mrs : isOf BANKED-READ w ≡ true → WrittenAs (partsIn BANKED-READ w)
-  write-mrs h =
-      let p = partsIn BANKED-READ w in
-      let out = and-left (laidOut MRS w) (inRange p) h in
-      let a : p .a ≡ aIn w = omega arith in
-      let a-fits : p .a < 64 = omega (arith, a, a-below) in
-      let are : areParts p ≡ true = both (lt-ltb (p .a) 64 a-fits) (and-right (laidOut MRS w) (inRange p) h) in
-      (are, written p are ∙ word-back p w MRS small tiles-mrs (given-back p w MRS out (named-mrs w)))
-
-  write-msr : isOf BANKED-WRITE w ≡ true → WrittenAs (partsIn BANKED-WRITE w)
-  write-msr h =
-      let p = partsIn BANKED-WRITE w in
-      let out = and-left (laidOut MSR w) (inRange p) h in
-      let a : p .a ≡ aIn w = omega arith in
-      let a-fits : p .a < 64 = omega (arith, a, a-below) in
-      let are : areParts p ≡ true = both (lt-ltb (p .a) 64 a-fits) (and-right (laidOut MSR w) (inRange p) h) in
-      (are, written p are ∙ word-back p w MSR small tiles-msr (given-back p w MSR out (named-msr w)))
+  -- by the table of a code
+  write-as : {code : ℕ} → Kept code → isOf code w ≡ true → WrittenAs (partsIn code w)
+  write-as {code} T h =
+      let p = partsIn code w in
+      let laid = laidOut (encoding code) w in
+      let a-fits : p .a < 64 = omega (arith, T .a-is w, a-below w) in
+      let are : areParts p ≡ true = both (T .banked) (both (lt-ltb (p .a) 64 a-fits) (and-right laid (inRange p) h)) in
+      let back = given-back p w (encoding code) (and-left laid (inRange p) h) (T .named w) in
+      (are, written p are ∙ word-back p w (encoding code) small (T .tiles) back)
 
   write-back : isRead w ≡ true → WrittenAs (reading w)
   write-back h = by (isOf BANKED-READ w) refl
     where
       by : (t : Bool) → isOf BANKED-READ w ≡ t → WrittenAs (reading w)
-      by true k = subst WrittenAs (sym (as-mrs w (partsIn BANKED-READ w) k refl .1)) (write-mrs k)
+      by true k = subst WrittenAs (sym (as-mrs w (partsIn BANKED-READ w) k refl .1)) (write-as mrs k)
       by false k =
           let of : isOf BANKED-WRITE w ≡ true = ap (λ t. t || isOf BANKED-WRITE w) (sym k) ∙ h in
-          subst WrittenAs (sym (as-msr w (partsIn BANKED-WRITE w) k of refl .1)) (write-msr of)
+          subst WrittenAs (sym (as-msr w (partsIn BANKED-WRITE w) k of refl .1)) (write-as msr of)
 
 -- ---- the numbers
 
@@ -319,7 +309,7 @@ is-word : (p : Parts) → writing p < 2 ^ 32
 is-word p = by (areParts p) refl
   where
     by : (t : Bool) → areParts p ≡ t → writing p < 2 ^ 32
-    by true h = word-below p h
+    by true h = by-code p h (writing p < 2 ^ 32) (word-below p h mrs) (word-below p h msr)
     by false h = subst (λ v. v < 2 ^ 32) (sym (not-written p (λ z. true-is-not-false (are-parts p z) h) .1)) (lit< tt)
 
 -- ---- the numbers by what was read and written: the parts of no instruction have no code, and no instruction is the word 0
@@ -338,7 +328,8 @@ number-by-code w = by (isOf BANKED-READ w) (isOf BANKED-WRITE w)
 not-zero : (p : Parts) → areParts p ≡ true → writing p ≡ 0 → ⊥
 not-zero p are z =
     let r = ranges p (in-ranges p are) in
-    by-code p are ⊥ (λ e. omega (arith, mrs-word p (r .0) (r .1) (r .2) e, z)) (λ e. omega (arith, msr-word p (r .0) (r .1) (r .2) e, z))
+    by-code p are ⊥ (λ e. omega (arith, mrs-word p (r .0) (r .1) (r .2) e, z))
+    (λ e. omega (arith, msr-word p (r .0) (r .1) (r .2) e, z))
 
 pub number-by-word : (p : Parts) → writeNumber p ≡ (if writing p is 0 then NOT-BANKED else DONE)
 number-by-word p = by (areParts p) refl

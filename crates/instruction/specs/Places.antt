@@ -1,6 +1,14 @@
--- Where A and the condition stand in a word of either table: between the rules and the code, which the proofs join. No contract of a
--- public function goes by it.
+-- Where the fixed bits, A and the condition stand in a word of either table: between the rules and the code, which the proofs join. No
+-- contract of a public function goes by it.
+use mathlib.Core.Bool.{Bool, _&&_}
 use Prim.Native.Nat.{ℕ, _+_, _*_, _/_, _%_}
+use Rattle.state.specs.Choice.{_is_}
+
+-- the fixed bits that both share, those at 21 and 20, and a field that only one of them has fixed
+abbrev pub hasBits : ℕ → ℕ → ℕ → ℕ → Bool
+hasBits w op field due =
+    (w / 0x800000 % 32 is 2)
+    && ((w / 0x100000 % 4 is op) && ((w / 0x400 % 4 is 0) && ((w / 0x200 % 2 is 1) && ((w / 0x10 % 16 is 0) && (field is due)))))
 
 -- A: R, M and M1
 abbrev pub aIn : ℕ → ℕ

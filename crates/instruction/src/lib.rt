@@ -4,9 +4,8 @@ ghost use Prim.Native.Nat.{_+_, _*_, _/_, _%_, _<_};
 ghost use mathlib.Core.Bool.{_&&_};
 ghost use lib.Dec.{ltb};
 ghost use Rattle.state.specs.Choice.{if_then_else_};
-ghost use Rattle.instruction.specs.Encoding.{MRS, MSR};
-ghost use Rattle.instruction.specs.Places.{aIn, sharedOf};
-ghost use Rattle.instruction.specs.Instruction.{laidOut, inRange, no-parts, reading, writing};
+ghost use Rattle.instruction.specs.Places.{hasBits, aIn, sharedOf};
+ghost use Rattle.instruction.specs.Instruction.{inRange, no-parts, reading, writing};
 use entry::code;
 
 // A condition, and a register, are below it.
@@ -26,14 +25,15 @@ pub struct Parts {
 
 // ---- reading
 
-// Are the fixed bits of a word those of MRS? The ones that should be so are asked for like the others.
-fn is_mrs(word: u32) -> bool
-    ensures { λ t. ⌜ t ≡ laidOut MRS word ⌝ }
+// Does the word have the fixed bits that both share, these two at 21 and 20, and in the field that only one of them has fixed what is
+// due? The bits that should be so are asked for like the others.
+fn has_bits(word: u32, op: u32, field: u32, due: u32) -> bool
+    ensures { λ t. ⌜ t ≡ hasBits word op field due ⌝ }
 {
     if word / 0x80_0000 % 32 != 2 {
         return false;
     }
-    if word / 0x10_0000 % 4 != 0 {
+    if word / 0x10_0000 % 4 != op {
         return false;
     }
     if word / 0x400 % 4 != 0 {
@@ -45,29 +45,7 @@ fn is_mrs(word: u32) -> bool
     if word / 0x10 % 16 != 0 {
         return false;
     }
-    word % 16 == 0
-}
-
-// And those of MSR?
-fn is_msr(word: u32) -> bool
-    ensures { λ t. ⌜ t ≡ laidOut MSR word ⌝ }
-{
-    if word / 0x80_0000 % 32 != 2 {
-        return false;
-    }
-    if word / 0x10_0000 % 4 != 2 {
-        return false;
-    }
-    if word / 0x1000 % 16 != 15 {
-        return false;
-    }
-    if word / 0x400 % 4 != 0 {
-        return false;
-    }
-    if word / 0x200 % 2 != 1 {
-        return false;
-    }
-    word / 0x10 % 16 == 0
+    field == due
 }
 
 fn none() -> Parts
@@ -101,11 +79,12 @@ fn a_of(word: u32) -> u32
     word / 0x40_0000 % 2 * 32 + word / 0x100 % 2 * 16 + word / 0x1_0000 % 16
 }
 
-// The parts of a word that is one of the two; of any other they are 0.
+// The parts of a word that is MRS, with bits 3 to 0 that should be 0, or MSR, with bits 15 to 12 that should be 1; of any other they
+// are 0.
 pub fn read(word: u32) -> Parts
     ensures { λ p. ⌜ p ≡ reading word ⌝ }
 {
-    if is_mrs(word) {
+    if has_bits(word, 0, word % 16, 0) {
         return within(Parts {
             code: code::BANKED_READ,
             a: a_of(word),
@@ -113,7 +92,7 @@ pub fn read(word: u32) -> Parts
             register: word / 0x1000 % 16,
         });
     }
-    if is_msr(word) {
+    if has_bits(word, 2, word / 0x1000 % 16, 15) {
         return within(Parts {
             code: code::BANKED_WRITE,
             a: a_of(word),

@@ -1,5 +1,5 @@
--- A direct step (document 02, No. 13): one that C asks for by itself, or in a batch, or that the recorder makes. It is the machine's step of
--- the event as a direct step knows it.
+-- A direct step (document 02, No. 13): one that C asks for by itself, or in a batch, or that the recorder makes. It is the machine's
+-- step of the event as a direct step knows it.
 use mathlib.Core.List.{List}
 use Prim.Native.Nat.{ℕ}
 use Rattle.rules.specs.Event.{Event}

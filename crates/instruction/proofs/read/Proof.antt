@@ -5,6 +5,7 @@ use borrow.Author.Needs.{needs}
 use Rattle.entry.specs.Code.{BANKED-READ, BANKED-WRITE}
 use Rattle.instruction.specs.Instruction.{Parts}
 use Rattle.instruction.proofs.Reading.{ifInRange, read-mrs, read-msr, read-none}
+use Rattle.instruction.proofs.Tests.{mrs-bits, msr-bits}
 use Rattle.instruction.proofs.read.Statement.{statement}
 use Rattle.instruction.proofs.read.Tie as tie
 
@@ -23,7 +24,7 @@ mrs c =
     let w = start .args .word in
     c .within .ensures
     ∙ ap (λ a. ifInRange (mrs-with w a)) (c .before .a-of .ensures)
-    ∙ read-mrs w (start .fits .word .fits) (sym (tested .is-mrs .ensures) ∙ found .if1 .taken)
+    ∙ read-mrs w (start .fits .word .fits) (sym (tested .has-bits .ensures ∙ mrs-bits w) ∙ found .if1 .taken)
 
 msr : tie.Need-returns-2
 msr c =
@@ -34,15 +35,17 @@ msr c =
     let w = start .args .word in
     c .within2 .ensures
     ∙ ap (λ a. ifInRange (msr-with w a)) (c .before .a-of2 .ensures)
-    ∙ read-msr w (start .fits .word .fits) (sym (other .before .is-mrs .ensures) ∙ other .if1 .left)
-    (sym (tested .is-msr .ensures) ∙ found .if2 .taken)
+    ∙ read-msr w (start .fits .word .fits) (sym (other .before .has-bits .ensures ∙ mrs-bits w) ∙ other .if1 .left)
+    (sym (tested .has-bits2 .ensures ∙ msr-bits w) ∙ found .if2 .taken)
 
 neither : tie.Need-returns-3
 neither c =
     let second = c .before in
     let first = second .before .before in
-    c .none .ensures
-    ∙ read-none _ (sym (first .before .is-mrs .ensures) ∙ first .if1 .left) (sym (second .before .is-msr .ensures) ∙ second .if2 .left)
+    let w = first .before .before .args .word in
+    let no-mrs = sym (first .before .has-bits .ensures ∙ mrs-bits w) ∙ first .if1 .left in
+    let no-msr = sym (second .before .has-bits2 .ensures ∙ msr-bits w) ∙ second .if2 .left in
+    c .none .ensures ∙ read-none w no-mrs no-msr
 
 pub read-spec : {M : Type 1} → statement M
 read-spec =
