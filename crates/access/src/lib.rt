@@ -1,4 +1,6 @@
 // The events that touch one word of a good block: banked accesses (document 01, "Banked-register rights") and notes.
+#![tactic(auto)]
+
 ghost use Rattle.std.specs.Prelude.{◌≡◌, ◌<◌, length};
 ghost use Rattle.state.specs.Place.{PLACES, BLOCK_SIZE};
 ghost use Rattle.rules.specs.Event.{BANKED_READ, BANKED_WRITE, NOTE};

@@ -1,5 +1,7 @@
 // The worked cases a to k of document 01 ("Numbers to hold against it"), run through `step_event`. Each line is a case
 // in the paper's notation; what it must say stands in the file stdout, written by hand from the paper.
+#![tactic(auto)]
+
 ghost use Rattle.std.specs.Prelude.{◌≤◌, ◌<◌};
 ghost use Rattle.state.specs.Place.{PLACES};
 

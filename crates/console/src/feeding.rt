@@ -32,7 +32,7 @@ pub extern "C" fn pomurica_feed(session: &mut Session, bytes: &[u8]) -> u32
 }
 
 // A session's numbers after closing, and what is returned.
-#[derive(Drop)]
+#[derive(Clone, Copy)]
 struct Closing {
     progress: Progress,
     number: u32,

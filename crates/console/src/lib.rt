@@ -1,4 +1,6 @@
 // The C face: every exported function, thin and total. How it is done is the business of the crates below.
+#![tactic(auto)]
+
 pub mod batch;
 pub mod check;
 pub mod counting;

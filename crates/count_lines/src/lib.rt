@@ -1,5 +1,7 @@
 // The counts as lines of text. They are made from the back, number by number and digit by digit, in a buffer that is large
 // enough for any counts, and then copied to the front of the lent room.
+#![tactic(auto)]
+
 ghost use Rattle.std.specs.Prelude.{◌≡◌, [], ◌∷◌, ◌+◌, ◌-◌, ◌*◌, ◌≤◌, ◌<◌, length};
 ghost use Rattle.counts.specs.Counts.{COUNTS_SIZE as counts_size};
 ghost use Rattle.count_lines.specs.Lines.{decimal, field, line, lines, lines_return, lines_leave};
@@ -11,7 +13,7 @@ use words::get_word;
 
 // What came of it: the number, and how many bytes were written.
 #[repr(C)]
-#[derive(Drop)]
+#[derive(Clone, Copy)]
 pub struct Written {
     pub number: u32,
     pub size: u32,

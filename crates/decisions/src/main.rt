@@ -1,6 +1,8 @@
 // Prints the decision table (document 02, No. 4): sixteen lines of sixteen digits, in the order of the index.
 //
 // What it must print stands in the file stdout, which `second/decisions.py` makes from document 01.
+#![tactic(auto)]
+
 use interrupts::decision::{INDEXES, decision};
 use libc::STDOUT_FILENO;
 

@@ -1,4 +1,6 @@
 // Which rules the archive goes by, and in which release of them: what VERSION at the project's root says, as a number.
+#![tactic(auto)]
+
 ghost use Rattle.std.specs.Prelude.{◌≡◌};
 ghost use Rattle.edition.specs.Edition.{number};
 

@@ -1,5 +1,7 @@
 // Exception entry: the codes of the events, what the routing of a synchronous one asks, and what an entry writes. How
 // interrupts are found and which refusals there are is not known here.
+#![tactic(auto)]
+
 pub mod code;
 pub mod enter;
 pub mod offset;

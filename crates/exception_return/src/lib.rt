@@ -1,4 +1,6 @@
 // The exception return on a good block (document 02, No. 9).
+#![tactic(auto)]
+
 ghost use Rattle.std.specs.Prelude.{◌≡◌};
 ghost use Rattle.rules.specs.Event.{RETURN};
 ghost use Rattle.returns.specs.Parts.{Leaves};

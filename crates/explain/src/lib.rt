@@ -4,6 +4,8 @@
 // The block before is not stepped to again: the records before the Step were judged right, so it is the last bytes before
 // the Step, the start block or the block after of the Step before. It is stepped as the machine has it, an old one with HDCR 0
 // behind it; and of the block after as much is compared as its layout has.
+#![tactic(auto)]
+
 ghost use Rattle.std.specs.Prelude.{◌≡◌, ◌+◌, ◌-◌, ◌≤◌, length, take, drop};
 ghost use Rattle.records.specs.Judged.{narrow, IsWide};
 ghost use Rattle.records.specs.Layout.{layout, start_size, step_size};
@@ -31,7 +33,7 @@ const BLOCK_PART: u32 = 3;
 const WORD_SIZE: usize = 4;
 
 // The first part that differs, the word found there and the word due; all 0 where there is none.
-#[derive(Drop)]
+#[derive(Clone, Copy)]
 struct Difference {
     pub part: u32,
     pub found: u32,
@@ -40,7 +42,7 @@ struct Difference {
 
 // The checker's report, and what is wrong with a wrong Step.
 #[repr(C)]
-#[derive(Drop)]
+#[derive(Clone, Copy)]
 pub struct Explanation {
     pub number: u32,
     pub place: u32,

@@ -1,4 +1,6 @@
 // Instruction words (document 02, No. 14): MRS and MSR of a banked register, read into the parts of an event, and written of them.
+#![tactic(auto)]
+
 ghost use Rattle.std.specs.Prelude.{◌≡◌, ◌+◌, ◌*◌, ◌/◌, ◌%◌, ◌<◌, ◌&&◌, ltb};
 ghost use Rattle.state.specs.Choice.{if◌then◌else◌};
 ghost use Rattle.instruction.specs.Places.{has_bits, a_in, shared_of};
@@ -14,7 +16,7 @@ const CELLS: u32 = 64;
 
 // What an instruction says: the event's code and A, and apart from them the condition and the general register.
 #[repr(C)]
-#[derive(Drop)]
+#[derive(Clone, Copy)]
 pub struct Parts {
     pub code: u32,
     pub a: u32,

@@ -1,4 +1,6 @@
 // The interrupt check (document 01, "The interrupt check"), on a good block: the first exception that can be taken is.
+#![tactic(auto)]
+
 ghost use Rattle.std.specs.Prelude.{◌≡◌};
 ghost use Rattle.interrupts.specs.Check.{physical_way, way};
 ghost use Rattle.interrupts.specs.declared.exception.Exception.TheVariants.{SError, Fiq, Irq};

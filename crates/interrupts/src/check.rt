@@ -15,7 +15,7 @@ use state::field::hcr_tge;
 use state::state::{either, is_hyp, is_secure};
 
 // What a check finds.
-#[derive(Drop)]
+#[derive(Clone, Copy)]
 pub enum Found {
     Nothing,
     First(Exception),

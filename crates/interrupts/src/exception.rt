@@ -2,7 +2,7 @@
 ghost use Rattle.std.specs.Prelude.{◌≡◌, ◌<◌};
 ghost use Rattle.interrupts.specs.Exception.{which};
 
-#[derive(Drop)]
+#[derive(Clone, Copy)]
 pub enum Exception {
     Synchronous,
     SError,

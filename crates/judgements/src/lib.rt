@@ -1,5 +1,7 @@
 // What is said of a Start, of a Step and of an End, each by the rest of the trace from the record's first byte on: the
 // fault's number, or ACCEPTED.
+#![tactic(auto)]
+
 ghost use Rattle.std.specs.Prelude.{◌≡◌, true, ◌↔◌, ◌≤◌, ◌<◌, ◌^◌, length};
 ghost use Rattle.words.specs.Word.{word};
 ghost use Rattle.rules.specs.Step.{ANSWER_SIZE as answer_size};

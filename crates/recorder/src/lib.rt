@@ -2,6 +2,8 @@
 //
 // The records stand one behind the other, and a Start ends, as a Step does, in the block that the next Step goes from. So a recording
 // needs no block of its own: the one before a Step is copied to its place in the new record, and stepped there.
+#![tactic(auto)]
+
 ghost use Rattle.std.specs.Prelude.{◌≡◌, ◌++◌, ◌+◌, ◌-◌, ◌≤◌, length, take, drop};
 ghost use Rattle.state.specs.Choice.{if◌then◌else◌, ◌is◌};
 ghost use Rattle.records.specs.Layout.{new_layout, start_size, step_size, end_size, most_steps, place_of, number_at, block_after_at};

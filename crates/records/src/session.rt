@@ -18,7 +18,7 @@ pub const OVER: u32 = 3;
 // The numbers of a session: its stage, n and Steps; the place of the record due, and how many bytes of it are held; the fault
 // that is known, or 0; and whether it is closed.
 #[repr(C)]
-#[derive(Drop)]
+#[derive(Clone, Copy)]
 pub struct Progress {
     pub stage: u32,
     pub count: u32,
@@ -31,7 +31,7 @@ pub struct Progress {
 
 // A session keeps its numbers, the last block, and one unfinished record.
 #[repr(C)]
-#[derive(Drop)]
+#[derive(Clone, Copy)]
 pub struct Session {
     pub progress: Progress,
     pub block: [u8; BLOCK_SIZE],

@@ -1,5 +1,7 @@
 // The parts of an exception return (document 02, No. 9): whether its operand is right, whether it is illegal, and the two words
 // that it writes. The event itself is in `exception_return`.
+#![tactic(auto)]
+
 ghost use Rattle.std.specs.Prelude.{◌≡◌};
 ghost use Rattle.state.specs.Field.{mode_field, SCR_NS, HCR_TGE};
 ghost use Rattle.returns.specs.Level.{level};

@@ -5,7 +5,7 @@ ghost use Rattle.state.specs.Choice.{◌is◌};
 use state::place;
 
 #[repr(C)]
-#[derive(Drop)]
+#[derive(Clone, Copy)]
 pub struct Event {
     pub code: u32,
     pub a: u32,

@@ -3,13 +3,13 @@ use interrupts::exception::Exception;
 use state::mode::Mode;
 
 #[repr(C)]
-#[derive(Drop)]
+#[derive(Clone, Copy)]
 pub struct Answer {
     pub number: u32,
     pub value: u32,
 }
 
-#[derive(Drop)]
+#[derive(Clone, Copy)]
 pub enum Verdict {
     // An entry: which exception it was, the mode it went to, and the offset.
     Entry {

@@ -1,5 +1,7 @@
 // A trace judged as it arrives (document 02, No. 6). A record that lies whole in a run of bytes is judged where it lies; of
 // any other the bytes are held until it is whole.
+#![tactic(auto)]
+
 ghost use Rattle.std.specs.Prelude.{◌≡◌, ◌+◌, ◌*◌, ◌<◌, ◌≤◌, false, not, ◌&&◌, leb, ◌++◌, length, take, replicate, nat_le, slice_index};
 ghost use Rattle.std.proofs.lemmas.List.Edits.{sets};
 ghost use Rattle.state.specs.Choice.{if◌then◌else◌, ◌is◌};
@@ -288,7 +290,7 @@ fn look(old: bool, before: u32, p: Progress, block: &mut [u8], unfinished: &mut 
 // ---- bytes come
 
 // The numbers of a session after some bytes of a run, and how many these were.
-#[derive(Drop)]
+#[derive(Clone, Copy)]
 struct Turn {
     progress: Progress,
     taken: usize,

@@ -6,7 +6,7 @@ ghost use Rattle.state.specs.Mode.{known, el1, guest, spsr_place, lr_place};
 use crate::place;
 
 // A mode, by the number that CPSR has for it.
-#[derive(Drop)]
+#[derive(Clone, Copy)]
 pub struct Mode {
     pub number: u32,
 }

@@ -1,5 +1,7 @@
 // The synchronous events (document 01, "Routing"), on a good block: each tests its operands, asks only what its own routing
 // asks, and enters at once, so that its target is known where the entry is compiled.
+#![tactic(auto)]
+
 ghost use Rattle.std.specs.Prelude.{◌≡◌, ◌<◌, true};
 ghost use Rattle.entry.specs.Code.{
   UNDEFINED_INSTRUCTION,

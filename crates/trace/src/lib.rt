@@ -1,4 +1,6 @@
 // The checker: one pass over the trace, from a copy of its start block, and no copy of the trace.
+#![tactic(auto)]
+
 ghost use Rattle.std.specs.Prelude.{◌≡◌, ◌↔◌, ◌+◌, ◌≤◌, ◌<◌, ◌^◌, length, drop};
 ghost use Rattle.records.specs.Layout.{layout, start_size, end_size, most_steps};
 ghost use Rattle.records.specs.Either.{report_of, PublishedInOne};

@@ -2,6 +2,8 @@
 //
 // It reads to the end of the input also where a fault is known before, so that a sender is not cut off. A read that fails, as
 // of a directory or a closed input, prints CANNOT READ: it is not the end of the input.
+#![tactic(auto)]
+
 use libc::{STDIN_FILENO, STDOUT_FILENO};
 use records::session::{Progress, RECORD_SIZE};
 use state::place::BLOCK_SIZE;
@@ -22,7 +24,7 @@ fn cannot_read() {
 
 // The numbers of the session after a read, and what the read answered: how many bytes came, 0 at the end of the input, or less
 // where it failed.
-#[derive(Drop)]
+#[derive(Clone, Copy)]
 struct Turn {
     progress: Progress,
     got: isize,

@@ -1,4 +1,6 @@
 // Little-endian words in lent bytes. The compiler turns each of these into a single load or store.
+#![tactic(auto)]
+
 pub mod runs;
 
 ghost use Rattle.std.specs.Prelude.{◌≡◌, ◌+◌, ◌*◌, ◌≤◌, length};
