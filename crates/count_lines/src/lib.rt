@@ -9,6 +9,7 @@ ghost use Rattle.count_lines.specs.Parts.{Pushed, TEXT_SIZE as text_size};
 
 use counts::places::{COUNTS_SIZE, GROUP_SIZE, WORDS};
 use state::number::{BAD_SIZE, DONE, NO_ROOM};
+use words::runs::copy;
 use words::get_word;
 
 // What came of it: the number, and how many bytes were written.
@@ -111,7 +112,7 @@ pub fn put_lines(counts: &[u8], room: &mut [u8]) -> Written
             size: 0,
         };
     }
-    bytes::copy(&text[first..], room);
+    copy(&text[first..], room);
     Written {
         number: DONE,
         size: size as u32,

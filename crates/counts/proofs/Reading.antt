@@ -67,7 +67,7 @@ module _ (L : Layout) (LL : Lawful L) where
 
   module _ (s : List ℕ) (by : Bytes s) (v : Report) (is : v ≡ report L s) (ok : v.number ≡ ACCEPTED) where
     accepted : Accepted L s v
-    accepted = rw is (((theorems L LL).says s by).accepted-whole (sym (ap (λ (x : Report). x.number) is) ∙ ok))
+    accepted = rw is (((theorems L LL).says s by).accepted_whole (sym (ap (λ (x : Report). x.number) is) ∙ ok))
 
     pub steps_read : length (events_of L s) ≡ v.steps
     steps_read = ap length (events_read L LL s accepted.whole) ∙ sym accepted.steps

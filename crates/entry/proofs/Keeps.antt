@@ -1,7 +1,7 @@
 -- Where a synchronous event goes, a good state stays good: one test over the modes, the codes and the bits. And an entry
 -- to a mode that may stand where it goes leaves a good block: once, over the target.
 use Rattle.std.proofs.Common.{◌≡◌, ℕ, ◌*◌, ◌/◌, ◌%◌, ◌^◌, ◌<◌, Bool, true, false, not, ◌&&◌, ◌||◌, List, length, sym, refl, ap, ◌∙◌, arith, eq-eqb, ne_eqb}
-use mathlib.Core.Bool.{and_true, and_false}
+use mathlib.Core.Bool.{and-true, and-false}
 use Rattle.words.specs.Word.{word, put, Bytes}
 use Rattle.words.proofs.Laws.{length-put, word-put_same, word-put_other, spelt_fits}
 use Rattle.state.specs.Choice.{if◌then◌else◌, ◌is◌}
@@ -112,8 +112,8 @@ target_stands = of_target may_stand tried
 -- ---- the block after an entry
 
 pub cleared_bit : (w : ℕ) (t : Bool) → SCR_NS (if t then without 0 w else w) ≡ (SCR_NS w && not t)
-cleared_bit w true = ne_eqb (without 0 w / 1 % 2) 1 (λ e. omega arith) ∙ sym (and_false (SCR_NS w))
-cleared_bit w false = sym (and_true (SCR_NS w))
+cleared_bit w true = ne_eqb (without 0 w / 1 % 2) 1 (λ e. omega arith) ∙ sym (and-false (SCR_NS w))
+cleared_bit w false = sym (and-true (SCR_NS w))
 
 module _ (b : List ℕ) (to : ℕ) (size : length b ≡ BLOCK_SIZE) (by : Bytes b) where
   abbrev leaves : Bool

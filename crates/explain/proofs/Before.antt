@@ -21,7 +21,7 @@ use Rattle.records.proofs.Determined.{events_back}
 use Rattle.records.proofs.Outcomes.{Beginning}
 use Rattle.records.proofs.Own.{Fault, cut, bad, own, start_fault, step_fault, end_fault}
 use Rattle.records.proofs.Records.{length_run, length_begun, start_block, start_rest}
-use Rattle.records.proofs.Told.{Told, start_told, step_told, end_told, end_faulty, trailing, accepted, told, length_is}
+use Rattle.records.proofs.Told.{Told, Ending, start_told, step_told, end_told, end_faulty, trailing, accepted, told, length_is}
 use Rattle.explain.specs.Explain.{block_before}
 
 -- ---- where a wrong Step is
@@ -49,6 +49,12 @@ module _ (L : Layout) (LL : Lawful L) where
   pub wrong_at : (s : List ℕ) → Bytes s → (report L s).number ≡ WRONG_STEP → WrongAt s (report L s)
   wrong_at s by = go (report L s) (told L LL s by)
     where
+      at_end : (p : Beginning L LL s) → length p.events ≡ p.count → (v : Report)
+          → Ending L LL (length p.events) (place_of L (length p.events)) p.rest v → v.number ≡ WRONG_STEP → WrongAt s v
+      at_end p l _ (end_faulty n e z) q = absurd (not_wrong (end_fault (length p.events) p.rest n e z) q)
+      at_end p l _ (trailing z m) q = absurd (omega arith)
+      at_end p l _ (accepted z m) q = absurd (omega arith)
+
       go : (v : Report) → Told L LL s v → v.number ≡ WRONG_STEP → WrongAt s v
       go _ (start_told n e z) q = absurd (not_wrong (start_fault L s n e z) q)
       go _ (step_told p l n e z) q =
@@ -59,10 +65,7 @@ module _ (L : Layout) (LL : Lawful L) where
             wrong = sym e ∙ q;
             whole = wrong_whole (step_fault L (run L p.start p.events) p.rest n e z) q;
           }
-      go _ (end_told p l _ (end_faulty n e z)) q =
-          absurd (not_wrong (end_fault (length p.events) p.rest n e z) q)
-      go _ (end_told p l _ (trailing z m)) q = absurd (omega arith)
-      go _ (end_told p l _ (accepted z m)) q = absurd (omega arith)
+      go v (end_told p l _ e) q = at_end p l v e q
 
   -- ---- the block before
 

@@ -20,6 +20,7 @@ use rules::known::seen_code;
 use rules::verdict::Answer;
 use state::number::WRONG_STEP;
 use state::place;
+use words::runs::copy;
 use words::{get_word, word_at};
 
 // The parts of a Step: the answer number, the value, and from BLOCK_PART on the words of the block after.
@@ -131,7 +132,7 @@ fn difference_at(old: bool, trace: &[u8], step: u32) -> Difference
     let at = step as usize;
     let before = at - block_size(old);
     let mut block = [0u8; place::BLOCK_SIZE];
-    bytes::copy(&trace[before..at], &mut block);
+    copy(&trace[before..at], &mut block);
     step_difference(old, &trace[at..], &mut block)
 }
 

@@ -1,6 +1,6 @@
 -- The word of some parts, by the places that the two tables give its fields.
 use mathlib.Core.Path.{◌≡◌, refl, sym, ap, ◌∙◌}
-use mathlib.Core.Bool.{Bool, true, false, ◌&&◌, ◌||◌, and_false}
+use mathlib.Core.Bool.{Bool, true, false, ◌&&◌, ◌||◌, and-false}
 use mathlib.Core.List.{List}
 use Prim.Native.Nat.{ℕ, ◌+◌, ◌*◌, ◌/◌, ◌%◌, ◌^◌, ◌<◌}
 use native.Mathlib.Omega.{arith}
@@ -28,7 +28,7 @@ in_ranges p = ltb p.a 64 && in_range p
 
 pub out_of_range : (p : Parts) → in_ranges p ≡ false → 0 ≡ writing p
 out_of_range p h =
-    let banked = p.code is BANKED_READ || p.code is BANKED_WRITE in no_word p (ap (λ t. banked && t) h ∙ and_false banked)
+    let banked = p.code is BANKED_READ || p.code is BANKED_WRITE in no_word p (ap (λ t. banked && t) h ∙ and-false banked)
 
 pub no_such_code : (p : Parts) → (p.code ≡ BANKED_READ → ⊥) → (p.code ≡ BANKED_WRITE → ⊥) → 0 ≡ writing p
 no_such_code p h k = no_word p (λ i. (ne_eqb _ _ h i || ne_eqb _ _ k i) && in_ranges p)

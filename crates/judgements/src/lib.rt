@@ -18,6 +18,7 @@ use rules::known::seen_code;
 use state::number::{BAD_COUNT, BAD_RECORD, DONE, SHORT, WRONG_STEP};
 use state::place;
 use state::place::{BLOCK_SIZE, OLD_BLOCK_SIZE};
+use words::runs::copy;
 use words::{get_word, runs, word_at};
 
 // The number of a record, and of a trace, without a fault.
@@ -138,9 +139,9 @@ pub fn judge_steps(old: bool, r: &[u8], count: u32, block: &mut [u8]) -> Run
     ensures { Went (layout old) r.now count block.old result block.new }
 {
     let mut own = [0u8; BLOCK_SIZE];
-    bytes::copy(block, &mut own);
+    copy(block, &mut own);
     let run = judge_each(old, r, count, &mut own);
-    bytes::copy(&own[..block_size(old)], block);
+    copy(&own[..block_size(old)], block);
     run
 }
 

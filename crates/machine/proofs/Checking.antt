@@ -37,10 +37,12 @@ use Rattle.machine.proofs.Laws.{interrupt_enters}
 -- ---- the first of a list
 
 pub first_is : {P : Exception → Type 0} (xs : List Exception) {x : Exception} → TheFirst P xs x → P x
+first_is {P = P} [] t = elim t [ ]
 first_is (x ∷ xs) (this p) = p
 first_is (y ∷ xs) (another n t) = first_is xs t
 
 one_of : {P : Exception → Type 0} (xs : List Exception) {x : Exception} → TheFirst P xs x → OneOf P xs
+one_of {P = P} [] t = elim t [ ]
 one_of (x ∷ xs) (this p) = inl p
 one_of (y ∷ xs) (another n t) = inr (one_of xs t)
 
@@ -93,12 +95,12 @@ module _ (b : List ℕ) (e : Event) where
 
   cannot : (x : Exception) → can x ≡ false → CanBeTaken b e x → ⊥
   unfolding takeable
-  cannot x h t = true_is_not_false (both t.is-pending (ap not t.not-masked)) h
+  cannot x h t = true_is_not_false (both t.is_pending (ap not t.not_masked)) h
 
   -- a synchronous exception is never pending
   not_synchronous : (x : Exception) → CanBeTaken b e x → x ≡ Synchronous → ⊥
   unfolding pending
-  not_synchronous x t h = true_is_not_false (rw h at t.is-pending) refl
+  not_synchronous x t h = true_is_not_false (rw h at t.is_pending) refl
 
   -- ---- what is found
 

@@ -51,11 +51,11 @@ is_first : (k : Kind) (b : List ℕ) (x : Exception) → CanBeTaken b (alone k b
 unfolding pending
 is_first serror b x can (this p) = refl
 is_first serror b x can (another n t) = absurd (n can)
-is_first fiq b x can (this p) = absurd (true_is_not_false p.is-pending refl)
+is_first fiq b x can (this p) = absurd (true_is_not_false p.is_pending refl)
 is_first fiq b x can (another n (this p)) = refl
 is_first fiq b x can (another n (another m t)) = absurd (m can)
-is_first irq b x can (this p) = absurd (true_is_not_false p.is-pending refl)
-is_first irq b x can (another n (this p)) = absurd (true_is_not_false p.is-pending refl)
+is_first irq b x can (this p) = absurd (true_is_not_false p.is_pending refl)
+is_first irq b x can (another n (this p)) = absurd (true_is_not_false p.is_pending refl)
 is_first irq b x can (another n (another m (this p))) = refl
 is_first irq b x can (another n (another m (another l t))) = absurd (l can)
 
@@ -127,7 +127,7 @@ module _ (k : Kind) (b : List ℕ) (size : length b ≡ BLOCK_SIZE) (good : faul
   unfolding takeable
   could p =
       let c = first_is order (the_first b here (done k b size good) refl (physical k) p) in
-      both c.is-pending (ap not c.not-masked)
+      both c.is_pending (ap not c.not_masked)
 
   routed : (p : EntersBy b here (physical k)) → p.to ≡ to
   unfolding way

@@ -16,6 +16,7 @@ use rules::event::Event;
 use rules::known::direct_code;
 use state::number;
 use state::place::BLOCK_SIZE;
+use words::runs::copy;
 use words::put_word;
 
 // The bytes of the records.
@@ -80,7 +81,7 @@ fn put_start(part: &mut [u8], count: u32, block: &[u8])
 {
     put_word(part, HEAD, layout::START_SIZE + 65536 * layout::START_KIND);
     put_word(part, COUNT, count);
-    bytes::copy(block, &mut part[layout::START_BLOCK..]);
+    copy(block, &mut part[layout::START_BLOCK..]);
 }
 
 // The block in front, copied to where the block after goes.
@@ -122,7 +123,7 @@ fn put_step(part: &mut [u8], e: Event)
         e.b,
         &mut answer,
     );
-    bytes::copy(&answer, &mut part[ANSWER..]);
+    copy(&answer, &mut part[ANSWER..]);
 }
 
 fn put_end(part: &mut [u8], count: u32)

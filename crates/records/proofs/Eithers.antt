@@ -84,7 +84,7 @@ no_trace_begins s by m t p =
     let says = (theorems_of (is_old s)).says s by in
     let to = judged_to (layout_of s) s (report_of s) in
     let long : head_size ≤ length (take to s) =
-    omega (arith, length-take to s, judged_head s (report_of s), says.judged-within m) in
+    omega (arith, length-take to s, judged_head s (report_of s), says.judged_within m) in
     let same : p.old ≡ is_old s =
     sym (published_tells p.old (take to s ++ t) p.of)
     ∙ old_front (take to s) t long

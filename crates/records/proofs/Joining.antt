@@ -140,14 +140,14 @@ module _ (old : Bool) (s : List ℕ) where
   apart =
       λ i. session t.progress
       (take_at t.block (drop L.size (no_block new_layout)) L.size stood.block_size i)
-      (take_at t.unfinished (drop (step_size L) (nothing_held new_layout)) (step_size L) stood.record-size i)
+      (take_at t.unfinished (drop (step_size L) (nothing_held new_layout)) (step_size L) stood.record_size i)
 
   -- and zeros lie behind it
   behind : (u : Session) → widened old (in_layout old s) u ≡ widened old opened_session u
   behind u =
       λ i. session u.progress
       (u.block ++ drop_at t.block (drop L.size (no_block new_layout)) L.size stood.block_size i)
-      (u.unfinished ++ drop_at t.unfinished (drop (step_size L) (nothing_held new_layout)) (step_size L) stood.record-size i)
+      (u.unfinished ++ drop_at t.unfinished (drop (step_size L) (nothing_held new_layout)) (step_size L) stood.record_size i)
 
 -- where a fault is known nothing is held
 fault_cleared : (old : Bool) (s : List ℕ) → ((fed (layout old) (opened (layout old)) s).progress.fault ≡ 0 → ⊥)

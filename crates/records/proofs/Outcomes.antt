@@ -126,7 +126,7 @@ module _ (L : Layout) (LL : Lawful L) where
 
       ended : (p : Started L LL s) → Outcome s
       ended p =
-          let q = come p.count p.block p.rest p.rest-bytes in decide p q (zero_or_not q.left) q.stuck
+          let q = come p.count p.block p.rest p.rest_bytes in decide p q (zero_or_not q.left) q.stuck
 
   -- ---- what the report is then
 

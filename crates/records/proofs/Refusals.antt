@@ -24,7 +24,7 @@ use Rattle.records.proofs.Judging.{from_step, from_end}
 use Rattle.records.proofs.Accepts.{published_accepted, report_begun}
 use Rattle.records.proofs.Outcomes.{Beginning, steps_of, due_at, block_of, counted}
 use Rattle.records.proofs.Own.{Fault, cut, bad, own, start_fault, step_fault, end_fault, start_own, step_own, end_own, bad_own}
-use Rattle.records.proofs.Told.{Told, start_told, step_told, end_told, end_faulty, trailing, accepted, told}
+use Rattle.records.proofs.Told.{Told, Ending, start_told, step_told, end_told, end_faulty, trailing, accepted, told}
 use Rattle.records.proofs.Told.{begins, length_is, far, published_before, publishes, end_whole}
 
 -- ---- what a fault says of its record
@@ -215,7 +215,7 @@ module _ (L : Layout) (LL : Lawful L) where
       let judged : ℕ → ℕ = λ due. if eqb n BAD_RECORD then head_size else due in
       record {
         accepted_whole = λ q. absurd (z q);
-        at_zero = d.zero-steps;
+        at_zero = d.zero_steps;
         begun_before = λ a t. d.begun;
         trailing_whole = λ q. absurd (never_more x d.range.1 q);
         short_not_whole = λ q. omega (arith, not_whole x d.range.0 q, d.all, d.due n);
@@ -260,13 +260,12 @@ module _ (L : Layout) (LL : Lawful L) where
             neither : Misjudged v → ⊥
             neither q = let b = between v q in ⊎_elim (λ w. omega arith) (λ w. omega arith) h
 
-        go : (v : Report) → Told L LL s v → Says L s v
-        go _ (start_told n e z) = faulty s _ _ (start_due s) n e z (start_fault L s n e z)
-        go _ (step_told p l n e z) =
-            faulty s _ _ (step_due s p l) n e z (step_fault L (block_of L LL p) p.rest n e z)
-        go _ (end_told p l _ (end_faulty n e z)) =
+        -- how End is reported
+        at_end : (p : Beginning L LL s) → steps_of L LL p ≡ p.count → (v : Report)
+            → Ending L LL (steps_of L LL p) (due_at L LL p) p.rest v → Says L s v
+        at_end p l _ (end_faulty n e z) =
             faulty s _ _ (end_due s p l) n e z (end_fault (steps_of L LL p) p.rest n e z)
-        go _ (end_told p l _ (trailing z m)) =
+        at_end p l _ (trailing z m) =
             ended _ p refl (inr refl) (omega arith) (λ q. absurd (omega arith))
             (λ q.
             record {
@@ -277,7 +276,7 @@ module _ (L : Layout) (LL : Lawful L) where
               all = refl;
               more = omega (arith, length_is L LL s p);
             })
-        go _ (end_told p l _ (accepted z m)) =
+        at_end p l _ (accepted z m) =
             let is = published_before L LL s p l z
             ∙ ap (λ (t : List ℕ). published L p.start p.events ++ t)
             (drop_of_length-le p.rest {i = end_size} m)
@@ -291,9 +290,15 @@ module _ (L : Layout) (LL : Lawful L) where
             })
             (λ q. absurd (omega arith))
 
+        go : (v : Report) → Told L LL s v → Says L s v
+        go _ (start_told n e z) = faulty s _ _ (start_due s) n e z (start_fault L s n e z)
+        go _ (step_told p l n e z) =
+            faulty s _ _ (step_due s p l) n e z (step_fault L (block_of L LL p) p.rest n e z)
+        go v (end_told p l _ e) = at_end p l v e
+
     -- number 0 exactly when the string is a published trace and nothing more
     pub accepts_exactly : ((report L s).number ≡ ACCEPTED) ↔ Published L s
-    accepts_exactly = ((λ z. (says.accepted-whole z).whole), (λ p. published_number s p))
+    accepts_exactly = ((λ z. (says.accepted_whole z).whole), (λ p. published_number s p))
 
     -- so a report that is the right one is exact
     pub exact : (v : Report) → v ≡ report L s → (v ≡ report L s) × ((v.number ≡ ACCEPTED) ↔ Published L s)

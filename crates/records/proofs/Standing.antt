@@ -151,7 +151,7 @@ module _ (L : Layout) (LL : Lawful L) where
       where
         same : fed L t (x ∷ []) ≡ t → Form s' t → Stands s' (fed L t (x ∷ []))
         same e f =
-            subst (Stands s') (sym e) (record { form = f; block_size = a.block_size; record_size = a.record-size })
+            subst (Stands s') (sym e) (record { form = f; block_size = a.block_size; record_size = a.record_size })
 
         go : Form s t → Stands s' (fed L t (x ∷ []))
         go (broken h z b u) =
@@ -177,7 +177,7 @@ module _ (L : Layout) (LL : Lawful L) where
                 → Stands s' (fed L t (x ∷ []))
             by_room (inl r) =
                 subst (Stands s') (sym (byte_held L t x (record { live = live; going = not_over; room = r })))
-                (behind t h c f g a.block_size a.record-size)
+                (behind t h c f g a.block_size a.record_size)
             by_room (inr r) =
                 same (fed_full L t live not_over r (x ∷ [])) (going (omega (arith, more)) c f g)
 

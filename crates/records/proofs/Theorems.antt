@@ -48,5 +48,5 @@ theorems_of old = theorems (layout old) (lawful old)
 
 -- the place of any report is at most 13,369,336, so that a word holds it
 pub place_fits : (old : Bool) (s : List ℕ) → Bytes s → (report (layout old) s).place ≤ 13369336
-place_fits true s by = omega (arith, ((theorems_of true).says s by).place-fits)
-place_fits false s by = ((theorems_of false).says s by).place-fits
+place_fits true s by = omega (arith, ((theorems_of true).says s by).place_fits)
+place_fits false s by = ((theorems_of false).says s by).place_fits

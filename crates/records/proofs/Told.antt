@@ -71,7 +71,7 @@ module _ (L : Layout) (LL : Lawful L) where
         let n : ℕ = steps_of L LL p in
         p.is
         ∙ (λ i. start_record L (sym e i) p.start
-        ++ (step_records L p.start p.events ++ end_is L LL n p.rest p.rest-bytes z i))
+        ++ (step_records L p.start p.events ++ end_is L LL n p.rest p.rest_bytes z i))
         ∙ simp append_assoc
 
     unfoldable pub publishes : steps_of L LL p ≡ p.count → (q : List ℕ) → q ≡ published L p.start p.events → Published L q

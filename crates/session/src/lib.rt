@@ -40,6 +40,7 @@ use records::session::{AT_START, NEXT, OLD_NEXT, OVER, Progress, RECORD_SIZE, Se
 use state::number::{CLOSED, SHORT, TRAILING};
 use state::place::BLOCK_SIZE;
 use std::num::wrapping_add_u32;
+use words::runs::copy;
 use words::word_at;
 
 // Where the kind of a record stands.
@@ -117,7 +118,7 @@ fn judge_start_into(old: bool, r: &[u8], block: &mut [u8]) -> u32
     if fault != ACCEPTED {
         return fault;
     }
-    bytes::copy(&r[layout::START_BLOCK..start_size(old) as usize], block);
+    copy(&r[layout::START_BLOCK..start_size(old) as usize], block);
     ACCEPTED
 }
 
@@ -154,7 +155,7 @@ fn clear(bytes: &mut [u8])
     ensures { bytes.new ≡ replicate (length bytes.old) 0 }
 {
     let nothing = [0u8; RECORD_SIZE];
-    bytes::copy(&nothing[..bytes.len()], bytes);
+    copy(&nothing[..bytes.len()], bytes);
 }
 
 // A fault is known: nothing is kept but the numbers.
@@ -310,7 +311,7 @@ fn put_run(d: &mut [u8], at: usize, r: &[u8])
     requires { at + length r.now ≤ length d.old }
     ensures { d.new ≡ sets d.old at r.now }
 {
-    bytes::copy(r, &mut d[at..]);
+    copy(r, &mut d[at..]);
 }
 
 // Bytes of a record that is not whole yet, up to its end.

@@ -12,6 +12,7 @@ use records::layout::{block_size, is_old, place_of, start_size};
 use records::report::Report;
 use state::number::TRAILING;
 use state::place;
+use words::runs::copy;
 use words::word_at;
 
 // End, due at this place after all Steps, and nothing behind it.
@@ -74,7 +75,7 @@ fn check_in(old: bool, trace: &[u8]) -> Report
     let steps = word_at(trace, layout::COUNT);
     let mut block = [0u8; place::BLOCK_SIZE];
     let start = &mut block[..block_size(old)];
-    bytes::copy(&trace[layout::START_BLOCK..start_size(old) as usize], start);
+    copy(&trace[layout::START_BLOCK..start_size(old) as usize], start);
     judge_rest(old, trace, steps, start)
 }
 

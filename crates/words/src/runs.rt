@@ -1,5 +1,5 @@
 // Runs of bytes.
-ghost use Rattle.std.specs.Prelude.{◌≡◌, true, ◌↔◌, ◌≤◌, length};
+ghost use Rattle.std.specs.Prelude.{◌≡◌, true, ◌↔◌, ◌≤◌, length, take, drop, ◌++◌};
 ghost use Rattle.words.specs.Runs.{Agree};
 
 // Whether the two runs have the same bytes from the one place up to the other. The loop has no early exit, so that the
@@ -30,4 +30,13 @@ pub fn same(a: &[u8], b: &[u8]) -> bool
         return false;
     }
     same_between(a, b, even, a.len())
+}
+
+// Puts the bytes of the one run over the first of the other.
+pub fn copy(from: &[u8], to: &mut [u8])
+    requires { length from.now ≤ length to.old }
+    ensures { (length to.new ≡ length to.old)
+        × (to.new ≡ take (length from.now) from.now ++ drop (length from.now) to.old) }
+{
+    to[..from.len()].copy_from_slice(from);
 }
