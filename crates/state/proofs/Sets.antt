@@ -6,7 +6,7 @@ use Prim.Native.Nat.{ℕ, ◌<◌, ◌≤◌}
 use native.Mathlib.Omega.{arith}
 use lib.Dec.{eqb, ltb}
 use borrow.Author.Tests.{ne_eqb, ltb-true}
-use Rattle.state.specs.Choice.{if◌then◌else◌, ◌is◌, ◌among◌}
+use Rattle.state.specs.Choice.{if◌then◌else◌, ◌among◌}
 pub use Rattle.state.specs.Parts.{in_set}
 use Rattle.state.proofs.Test.{same, same_eq, every_below, at_below, every_of, and_left, and_right}
 

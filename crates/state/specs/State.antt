@@ -1,6 +1,6 @@
 -- What every rule asks of the words CPSR, SCR and HCR: the mode, the Security state, and whether the block is good
 -- (document 01, "The state block" and "Answer numbers").
-use Rattle.std.specs.Prelude.{Bool, true, false, not, ◌&&◌, ◌||◌, List, [], ◌∷◌, ℕ}
+use Rattle.std.specs.Prelude.{Bool, not, ◌&&◌, ◌||◌, List, [], ◌∷◌, ℕ}
 use Rattle.words.specs.Word.{word}
 use Rattle.state.specs.Choice.{◌is◌, first_of}
 use Rattle.state.specs.Field.{bits, mode_field, SCR_NS, HCR_TGE}
