@@ -1,12 +1,13 @@
 -- No. 10 of document 02: the accesses that were NO_RIGHT are now NO_RIGHT or OWN_REGISTER and no others, and OWN_REGISTER is given
 -- exactly on the list of current mode registers. What hangs on register, mode and state is tried at each of them.
+use Rattle.std.specs.Prelude.{if◌then◌else◌}
 use mathlib.Core.Path.{◌≡◌, refl, sym, ap, ◌∙◌}
 use mathlib.Core.Bool.{Bool, true, false, not, ◌&&◌, ◌||◌}
 use mathlib.Core.Logic.{◌⊎◌, inl, inr, ◌↔◌}
 use Prim.Native.Nat.{ℕ, ◌<◌}
 use native.Mathlib.Omega.{arith}
 use borrow.Author.Tests.{eqb-true, eqb-false}
-use Rattle.state.specs.Choice.{if◌then◌else◌, ◌is◌, ◌among◌}
+use Rattle.state.specs.Choice.{◌is◌, ◌among◌}
 use Rattle.state.specs.Field.{mode_field, SCR_NS}
 use Rattle.state.specs.Mode.{USER, MONITOR, HYP, modes, known}
 use Rattle.state.specs.Number.{DONE, NO_RIGHT, OWN_REGISTER}

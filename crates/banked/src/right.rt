@@ -1,6 +1,6 @@
 // Who may reach a banked register, and why not (document 01, "Banked-register rights"; document 02, No. 10).
-ghost use Rattle.std.specs.Prelude.{◌≡◌, ◌||◌, ◌%◌, ◌≤◌};
-ghost use Rattle.state.specs.Choice.{if◌then◌else◌, ◌is◌};
+ghost use Rattle.std.specs.Prelude.{◌≡◌, ◌||◌, ◌%◌, ◌≤◌, if◌then◌else◌};
+ghost use Rattle.state.specs.Choice.{◌is◌};
 ghost use Rattle.state.specs.Field.{mode_field, SCR_NS};
 ghost use Rattle.state.specs.Number.{NO_REGISTER};
 ghost use Rattle.state.specs.Place.{NO_PLACE};

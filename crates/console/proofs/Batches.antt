@@ -1,4 +1,5 @@
 -- Batches one after another, a refused event in the middle, and three wrong batches, each refuted by a list that antt computes.
+use Rattle.std.specs.Prelude.{if◌then◌else◌}
 use mathlib.Core.Path.{◌≡◌, refl, sym, ap, ◌∙◌}
 use mathlib.Core.Bool.{Bool, true, false, ◌&&◌}
 use mathlib.Core.List.{List, [], ◌∷◌, ◌++◌}
@@ -8,7 +9,6 @@ use lib.Dec.{eqb}
 use lib.ListN.{length, get_or, length-append}
 use borrow.Author.Tests.{eq-eqb, ne_eqb, eqb-true, eqb-false}
 use Rattle.words.specs.Word.{spelt, put}
-use Rattle.state.specs.Choice.{if◌then◌else◌}
 use Rattle.state.specs.Mode.{known, el1, guest, spsr_place, lr_place}
 use Rattle.state.specs.Number.{DONE, BAD_SIZE}
 use Rattle.state.specs.Place.{BLOCK_SIZE, CPSR, LR_mon}

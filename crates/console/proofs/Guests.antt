@@ -1,5 +1,6 @@
 -- A batch of its lengths leaves the answers and the block of single direct steps in order; of banked accesses these are the machine's own,
 -- of which its theorem speaks.
+use Rattle.std.specs.Prelude.{if◌then◌else◌}
 use mathlib.Core.Path.{◌≡◌, refl, sym, ap, ◌∙◌}
 use mathlib.Core.Bool.{Bool, true, false}
 use mathlib.Core.List.{List, [], ◌∷◌}
@@ -7,7 +8,7 @@ use Prim.Native.Nat.{ℕ}
 use lib.ListN.{length, take}
 use lib.Seq.{take-length}
 use borrow.Author.Tests.{eq-eqb, eqb-true}
-use Rattle.state.specs.Choice.{if◌then◌else◌, ◌is◌}
+use Rattle.state.specs.Choice.{◌is◌}
 use Rattle.state.specs.Number.{DONE, BAD_SIZE}
 use Rattle.state.specs.Place.{BLOCK_SIZE}
 use Rattle.state.proofs.Test.{refuted, true_is_not_false}

@@ -1,11 +1,11 @@
 -- The three ways in which the lines of counts are told to C.
+use Rattle.std.specs.Prelude.{if◌then◌else◌}
 use mathlib.Core.Path.{◌≡◌, sym, ap, ◌∙◌}
 use mathlib.Core.Bool.{Bool}
 use mathlib.Core.List.{List}
 use Prim.Native.Nat.{ℕ}
 use lib.ListN.{length}
 use borrow.Author.Tests.{eq-eqb, ne_eqb}
-use Rattle.state.specs.Choice.{if◌then◌else◌}
 use Rattle.state.specs.Number.{BAD_SIZE}
 use Rattle.rules.specs.Step.{ANSWER_SIZE}
 use Rattle.count_lines.specs.declared.Written.{Written}

@@ -1,8 +1,8 @@
 -- Many events in one call (document 02, No. 2): a lent list of events, a list of answers of equal length, and one block.
 -- Afterwards block and answers are those of single direct steps done in order; an event that is refused has its number, and the rest
 -- go on. Unequal lengths, or a block that has not its size, are BAD-SIZE and change nothing.
-use Rattle.std.specs.Prelude.{◌≡◌, Bool, ◌&&◌, List, ℕ, length}
-use Rattle.state.specs.Choice.{if◌then◌else◌, ◌is◌}
+use Rattle.std.specs.Prelude.{◌≡◌, Bool, ◌&&◌, List, ℕ, length, if◌then◌else◌}
+use Rattle.state.specs.Choice.{◌is◌}
 use Rattle.state.specs.Number.{DONE, BAD_SIZE}
 use Rattle.state.specs.Place.{BLOCK_SIZE}
 use Rattle.rules.specs.declared.event.Event.{Event}

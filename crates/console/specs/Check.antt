@@ -1,8 +1,8 @@
 -- What C gets of the checker (document 01, "The trace"): the number is returned, and the report's three words, number,
 -- place and Steps, are written little-endian into a buffer of 12 bytes. Any other buffer is BAD-SIZE and is left alone.
-use Rattle.std.specs.Prelude.{List, ◌++◌, ℕ, length}
+use Rattle.std.specs.Prelude.{List, ◌++◌, ℕ, length, if◌then◌else◌}
 use Rattle.words.specs.Word.{le32}
-use Rattle.state.specs.Choice.{if◌then◌else◌, ◌is◌}
+use Rattle.state.specs.Choice.{◌is◌}
 use Rattle.state.specs.Number.{BAD_SIZE}
 use Rattle.records.specs.declared.report.Report.{Report}
 use Rattle.records.specs.Either.{report_of}

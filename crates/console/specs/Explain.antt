@@ -1,8 +1,8 @@
 -- What C gets of an explanation: the number is returned, and its six words, number, place, Steps, part, found and due, are
 -- written little-endian into a buffer of 24 bytes. Any other buffer is BAD-SIZE and is left alone.
-use Rattle.std.specs.Prelude.{List, ◌++◌, ℕ, length}
+use Rattle.std.specs.Prelude.{List, ◌++◌, ℕ, length, if◌then◌else◌}
 use Rattle.words.specs.Word.{le32}
-use Rattle.state.specs.Choice.{if◌then◌else◌, ◌is◌}
+use Rattle.state.specs.Choice.{◌is◌}
 use Rattle.state.specs.Number.{BAD_SIZE}
 use Rattle.explain.specs.declared.Explanation.{Explanation}
 use Rattle.explain.specs.Either.{explanation_of}

@@ -1,8 +1,8 @@
 -- What C gets of instruction words (document 02, No. 14): the number is returned, and the parts, code, A, condition and register, are
 -- written little-endian into a buffer of 16 bytes, a word into one of 4. A buffer of another size is BAD-SIZE and is left alone.
-use Rattle.std.specs.Prelude.{List, ◌++◌, ℕ, length}
+use Rattle.std.specs.Prelude.{List, ◌++◌, ℕ, length, if◌then◌else◌}
 use Rattle.words.specs.Word.{le32}
-use Rattle.state.specs.Choice.{if◌then◌else◌, ◌is◌}
+use Rattle.state.specs.Choice.{◌is◌}
 use Rattle.state.specs.Number.{BAD_SIZE}
 use Rattle.instruction.specs.Instruction.{reading, read_number, writing, write_number}
 use Rattle.instruction.specs.declared.Parts.{Parts}

@@ -1,8 +1,8 @@
 -- What C gets of a trace judged as it arrives (document 02, No. 6): a session that it lends, and at closing a report of 12 bytes.
 -- Nothing is asked of a session: what is said here is said of one that nobody opened, too.
-use Rattle.std.specs.Prelude.{◌≡◌, ◌↔◌, List, [], ◌∷◌, ◌++◌, ℕ, ◌≤◌, length, take, leb}
+use Rattle.std.specs.Prelude.{◌≡◌, ◌↔◌, List, [], ◌∷◌, ◌++◌, ℕ, ◌≤◌, length, take, leb, if◌then◌else◌}
 use Rattle.words.specs.Word.{Bytes}
-use Rattle.state.specs.Choice.{if◌then◌else◌, ◌is◌}
+use Rattle.state.specs.Choice.{◌is◌}
 use Rattle.state.specs.Number.{DONE, BAD_SIZE}
 use Rattle.records.specs.declared.session.Progress.{Progress}
 use Rattle.records.specs.declared.session.Session.{Session}

@@ -1,6 +1,6 @@
 // Instruction words, for C.
-ghost use Rattle.std.specs.Prelude.{◌≡◌, length};
-ghost use Rattle.state.specs.Choice.{if◌then◌else◌, ◌is◌};
+ghost use Rattle.std.specs.Prelude.{◌≡◌, length, if◌then◌else◌};
+ghost use Rattle.state.specs.Choice.{◌is◌};
 ghost use Rattle.state.specs.Number.{DONE, NOT_BANKED};
 ghost use Rattle.console.specs.Instruction.{parts_size, parts_bytes, read_returns, read_leaves, write_returns, write_leaves};
 

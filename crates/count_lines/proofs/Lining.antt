@@ -1,5 +1,6 @@
 -- Lines from the last word to the first: the lines of the words passed stand at the end of the text, and there is room for
 -- sixteen bytes a word.
+use Rattle.std.specs.Prelude.{if◌then◌else◌}
 use mathlib.Core.Path.{◌≡◌, sym, ap, ◌∙◌}
 use mathlib.Core.Bool.{Bool, true, false}
 use mathlib.Core.List.{List, [], ◌∷◌, ◌++◌, append-nil}
@@ -10,7 +11,6 @@ use lib.Seq.{drop-length, take-length}
 use lib.Dec.{eqb}
 use borrow.Author.Tests.{eq-eqb, ne_eqb, lt-ltb, le-ltb}
 use Rattle.words.specs.Word.{word}
-use Rattle.state.specs.Choice.{if◌then◌else◌}
 use Rattle.state.specs.Number.{DONE, BAD_SIZE, NO_ROOM}
 use Rattle.counts.specs.Counts.{GROUP_SIZE, WORDS, COUNTS_SIZE}
 use Rattle.count_lines.specs.Lines.{SPACE, LINE_END, decimal, field, line, line_of, lines_from, lines, lines_return, lines_leave}

@@ -1,4 +1,5 @@
 -- A text that is made from the back: what is put before it stands before it.
+use Rattle.std.specs.Prelude.{if◌then◌else◌}
 use mathlib.Core.Path.{◌≡◌, refl, sym, ap, ◌∙◌}
 use mathlib.Core.Bool.{Bool, true, false}
 use mathlib.Core.List.{List, [], ◌∷◌, ◌++◌, append_assoc, append-nil}
@@ -9,7 +10,6 @@ use lib.ListN.{length, drop, set, length-append, length-set}
 use lib.Seq.{drop-cons, get_or-set_same}
 use lib.Dec.{ltb}
 use borrow.Author.Tests.{lt-ltb, le-ltb, ltb-true, ltb-false}
-use Rattle.state.specs.Choice.{if◌then◌else◌}
 use Rattle.count_lines.specs.Lines.{ZERO, digits, decimal}
 use Rattle.count_lines.specs.Parts.{Pushed}
 

@@ -1,8 +1,8 @@
 -- The counts as lines (document 02, No. 1): "one line per non-zero count: the group 1 to 4, the number within it, the count,
 -- in decimal, with single spaces between; groups in the order just given, numbers rising within each".
-use Rattle.std.specs.Prelude.{not, List, [], ◌∷◌, ◌++◌, ℕ, zero, suc, ◌+◌, ◌/◌, ◌%◌, length, drop, ltb}
+use Rattle.std.specs.Prelude.{not, List, [], ◌∷◌, ◌++◌, ℕ, zero, suc, ◌+◌, ◌/◌, ◌%◌, length, drop, ltb, if◌then◌else◌}
 use Rattle.words.specs.Word.{word}
-use Rattle.state.specs.Choice.{if◌then◌else◌, ◌is◌}
+use Rattle.state.specs.Choice.{◌is◌}
 use Rattle.state.specs.Number.{DONE, BAD_SIZE, NO_ROOM}
 use Rattle.counts.specs.Counts.{GROUP_SIZE, WORDS, COUNTS_SIZE}
 use Rattle.count_lines.specs.declared.Written.{Written}

@@ -9,8 +9,8 @@ ghost use Rattle.count_lines.specs.Parts.{Pushed, TEXT_SIZE as text_size};
 
 use counts::places::{COUNTS_SIZE, GROUP_SIZE, WORDS};
 use state::number::{BAD_SIZE, DONE, NO_ROOM};
-use words::runs::copy;
 use words::get_word;
+use words::runs::copy;
 
 // What came of it: the number, and how many bytes were written.
 #[repr(C)]

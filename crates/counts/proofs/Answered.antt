@@ -1,5 +1,6 @@
 -- What the rules answer has a word in each group: numbers are below 18, and the value of an exception tells a mode and an
 -- exception that are below 32.
+use Rattle.std.specs.Prelude.{if◌then◌else◌}
 use mathlib.Core.Path.{◌≡◌, refl, ap, ◌∙◌, subst}
 use mathlib.Core.Bool.{Bool, true, false, not, ◌&&◌, ◌||◌}
 use mathlib.Core.List.{List, [], ◌∷◌}
@@ -9,7 +10,7 @@ use lib.ListN.{length}
 use lib.Dec.{lit<}
 use borrow.Author.Tests.{eqb-true, eqb-false}
 use Rattle.words.specs.Word.{word}
-use Rattle.state.specs.Choice.{if◌then◌else◌, ◌is◌}
+use Rattle.state.specs.Choice.{◌is◌}
 use Rattle.state.specs.Number.{DONE}
 use Rattle.state.specs.Place.{CPSR, SCR, HCR}
 use Rattle.entry.specs.Code.{is_synchronous, BANKED_READ}

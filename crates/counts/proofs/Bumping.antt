@@ -1,5 +1,6 @@
 -- A Step has one number in each group, and a word belongs to one group: so what the four bumps of a Step add to a word,
 -- taken together, is whether the Step counts there.
+use Rattle.std.specs.Prelude.{if◌then◌else◌}
 use mathlib.Core.Path.{◌≡◌, refl, sym, ap, ◌∙◌}
 use mathlib.Core.Bool.{Bool, true, false, ◌&&◌}
 use mathlib.Core.List.{List}
@@ -10,7 +11,7 @@ use lib.Dec.{eqb, ltb}
 use borrow.Author.Tests.{eq-eqb, ne_eqb, eqb-true, eqb-false, ltb-true, ltb-false, lt-ltb, le-ltb}
 use Rattle.words.specs.Word.{spelt, word, put}
 use Rattle.words.proofs.Laws.{word-put_same, word-put_other, length-put}
-use Rattle.state.specs.Choice.{if◌then◌else◌, ◌is◌}
+use Rattle.state.specs.Choice.{◌is◌}
 use Rattle.counts.specs.Counts.{Step, counted, code_number, answer_number, is_entry, target_mode, is_done_check}
 use Rattle.counts.specs.Counts.{exception_taken, GROUP_SIZE, WORDS, COUNTS_SIZE}
 use Rattle.counts.specs.Parts.{step_of, NOWHERE, target_number, taken_number, bumped, Tally, Counted}

@@ -1,11 +1,12 @@
 -- The codes in the order of their numbers: those that the rules know are 1 to 13, the synchronous ones 1 to 8.
+use Rattle.std.specs.Prelude.{if◌then◌else◌}
 use mathlib.Core.Path.{◌≡◌, refl, sym, ap, ◌∙◌}
 use mathlib.Core.Bool.{Bool, true, false}
 use Prim.Native.Nat.{ℕ, ◌/◌, ◌%◌, ◌<◌, ◌≤◌}
 use native.Mathlib.Omega.{arith}
 use lib.Dec.{ltb, leb}
 use borrow.Author.Tests.{eq-eqb, ne_eqb, eqb-true, ltb-true, leb-true, leb-false, lt-ltb}
-use Rattle.state.specs.Choice.{if◌then◌else◌, ◌is◌}
+use Rattle.state.specs.Choice.{◌is◌}
 use Rattle.state.specs.Number.{DONE}
 use Rattle.state.proofs.Test.{refuted, at_below, at_one, same, same_eq}
 use Rattle.entry.specs.Code.{codes, synchronous_codes, is_known, is_synchronous, INTERRUPT_CHECK, MONITOR_TRAP, RETURN}

@@ -1,5 +1,6 @@
 -- The Steps that an accepted trace shows are those that the rules made of its events, and the words of its counts go by
 -- them.
+use Rattle.std.specs.Prelude.{if◌then◌else◌}
 use mathlib.Core.Path.{◌≡◌, refl, sym, ap, ◌∙◌}
 use mathlib.Core.Bool.{Bool, true, false, not}
 use mathlib.Core.Logic.{◌↔◌}
@@ -12,7 +13,6 @@ use borrow.Author.Tests.{eq-eqb, ne_eqb, not-true, not-false}
 use Rattle.words.specs.Word.{spelt, word, Bytes}
 use Rattle.words.proofs.Laws.{spells}
 use Rattle.words.proofs.Agree.{never}
-use Rattle.state.specs.Choice.{if◌then◌else◌}
 use Rattle.state.specs.Number.{DONE, BAD_SIZE, FULL}
 use Rattle.rules.specs.declared.event.Event.{Event}
 use Rattle.rules.specs.declared.verdict.Answer.{Answer}

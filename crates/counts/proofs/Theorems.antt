@@ -1,4 +1,5 @@
 -- The theorems, each proved here or in the file that it cites.
+use Rattle.std.specs.Prelude.{if◌then◌else◌}
 use mathlib.Core.Path.{◌≡◌, refl, ap, ◌∙◌}
 use mathlib.Core.Bool.{Bool, true, false, not}
 use mathlib.Core.List.{List}
@@ -9,7 +10,6 @@ use lib.ListN.{length}
 use lib.Dec.{eqb}
 use borrow.Author.Tests.{eq-eqb, ne_eqb, eqb-true, eqb-false}
 use Rattle.words.specs.Word.{word}
-use Rattle.state.specs.Choice.{if◌then◌else◌}
 use Rattle.state.specs.Number.{DONE, BAD_SIZE, FULL}
 use Rattle.records.specs.Layout.{Layout, layout, is_old, layout_of}
 use Rattle.records.specs.Published.{Published}

@@ -4,9 +4,9 @@
 -- A count stands at a word of its own: number i of group g at word 32 (g - 1) + i. An accepted trace adds the counts of its
 -- Steps to the words, a refused one adds nothing and keeps its number, and one that would carry any word past 4,294,967,295
 -- is refused whole with 13 FULL.
-use Rattle.std.specs.Prelude.{Bool, false, not, ◌&&◌, ◌||◌, List, [], ◌∷◌, ◌++◌, ℕ, zero, suc, ◌+◌, ◌/◌, ◌%◌, length, ltb}
+use Rattle.std.specs.Prelude.{Bool, false, not, ◌&&◌, ◌||◌, List, [], ◌∷◌, ◌++◌, ℕ, zero, suc, ◌+◌, ◌/◌, ◌%◌, length, ltb, if◌then◌else◌}
 use Rattle.words.specs.Word.{le32, word}
-use Rattle.state.specs.Choice.{if◌then◌else◌, ◌is◌}
+use Rattle.state.specs.Choice.{◌is◌}
 use Rattle.state.specs.Number.{DONE, BAD_SIZE, FULL}
 use Rattle.entry.specs.Code.{is_known, is_synchronous, INTERRUPT_CHECK}
 use Rattle.rules.specs.declared.event.Event.{Event}

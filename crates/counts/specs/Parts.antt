@@ -1,8 +1,7 @@
 -- What the inner functions of the counting ask and answer. Nobody has to believe these: the contracts of the public
 -- functions cite Counts.antt alone.
-use Rattle.std.specs.Prelude.{◌≡◌, List, [], ◌∷◌, ℕ, zero, suc, ◌+◌, ◌/◌, ◌%◌, ◌<◌, ◌≤◌, ◌^◌, length, drop, ltb}
+use Rattle.std.specs.Prelude.{◌≡◌, List, [], ◌∷◌, ℕ, zero, suc, ◌+◌, ◌/◌, ◌%◌, ◌<◌, ◌≤◌, ◌^◌, length, drop, ltb, if◌then◌else◌}
 use Rattle.words.specs.Word.{spelt, word, put}
-use Rattle.state.specs.Choice.{if◌then◌else◌}
 use Rattle.records.specs.Layout.{Layout, step_size, number_at, value_at}
 use Rattle.records.specs.Report.{event_of}
 use Rattle.counts.specs.Counts.{Step, is_entry, target_mode, is_done_check, exception_taken, counted, gain}

@@ -1,6 +1,5 @@
 // What the Steps of one trace add to each word. A trace has at most 65,535 Steps, so that no word of a tally overflows.
-ghost use Rattle.std.specs.Prelude.{◌≡◌, ◌+◌, ◌*◌, ◌/◌, ◌%◌, ◌≤◌, length, drop};
-ghost use Rattle.state.specs.Choice.{if◌then◌else◌};
+ghost use Rattle.std.specs.Prelude.{◌≡◌, ◌+◌, ◌*◌, ◌/◌, ◌%◌, ◌≤◌, length, drop, if◌then◌else◌};
 ghost use Rattle.entry.specs.Code.{is_known, is_synchronous};
 ghost use Rattle.records.specs.Layout.{layout, start_size, most_steps, place_of, block_after_at};
 ghost use Rattle.counts.specs.Counts.{WORDS, GROUP_SIZE as group_size};

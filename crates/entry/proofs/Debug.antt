@@ -1,6 +1,6 @@
 -- A debug abort (document 02, No. 11) is routed by an A that is here where its own is: TDE sends to Hyp only what may have a stage 2.
-use Rattle.std.proofs.Common.{◌≡◌, ℕ, Bool, true, false, not, ◌&&◌, ◌||◌, sym, refl, ap, ◌∙◌, eqb-true}
-use Rattle.state.specs.Choice.{if◌then◌else◌, ◌is◌}
+use Rattle.std.proofs.Common.{◌≡◌, ℕ, Bool, true, false, not, ◌&&◌, ◌||◌, sym, refl, ap, ◌∙◌, eqb-true, if◌then◌else◌}
+use Rattle.state.specs.Choice.{◌is◌}
 use Rattle.state.specs.Field.{mode_field, HDCR_TDE}
 use Rattle.state.specs.Mode.{USER, HYP, el1}
 use Rattle.state.specs.State.{secure, ns_user, ns_el1}

@@ -1,10 +1,10 @@
 -- Where a synchronous event goes, a good state stays good: one test over the modes, the codes and the bits. And an entry
 -- to a mode that may stand where it goes leaves a good block: once, over the target.
-use Rattle.std.proofs.Common.{◌≡◌, ℕ, ◌*◌, ◌/◌, ◌%◌, ◌^◌, ◌<◌, Bool, true, false, not, ◌&&◌, ◌||◌, List, length, sym, refl, ap, ◌∙◌, arith, eq-eqb, ne_eqb}
+use Rattle.std.proofs.Common.{◌≡◌, ℕ, ◌*◌, ◌/◌, ◌%◌, ◌^◌, ◌<◌, Bool, true, false, not, ◌&&◌, ◌||◌, List, length, sym, refl, ap, ◌∙◌, arith, eq-eqb, ne_eqb, if◌then◌else◌}
 use mathlib.Core.Bool.{and-true, and-false}
 use Rattle.words.specs.Word.{word, put, Bytes}
 use Rattle.words.proofs.Laws.{length-put, word-put_same, word-put_other, spelt_fits}
-use Rattle.state.specs.Choice.{if◌then◌else◌, ◌is◌}
+use Rattle.state.specs.Choice.{◌is◌}
 use Rattle.state.specs.Field.{bits, without, mode_field, SCR_NS, SCR_EA, HCR_TSC, HCR_TGE}
 use Rattle.state.specs.Mode.{USER, MONITOR, HYP, modes, known, el1, is_target, spsr_place, lr_place}
 use Rattle.state.specs.Number.{DONE}

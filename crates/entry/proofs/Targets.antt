@@ -1,6 +1,6 @@
 -- An entry goes to a mode with a saved state of its own, at an offset of the vector table.
-use Rattle.std.proofs.Common.{◌≡◌, ℕ, ◌<◌, Bool, true, false, not, ◌&&◌, [], ◌∷◌, refl, lit<}
-use Rattle.state.specs.Choice.{if◌then◌else◌, ◌is◌, ◌among◌}
+use Rattle.std.proofs.Common.{◌≡◌, ℕ, ◌<◌, Bool, true, false, not, ◌&&◌, [], ◌∷◌, refl, lit<, if◌then◌else◌}
+use Rattle.state.specs.Choice.{◌is◌, ◌among◌}
 use Rattle.state.specs.Field.{mode_field}
 use Rattle.state.specs.Mode.{MONITOR, HYP, targets, is_target}
 use Rattle.entry.specs.Code.{UNDEFINED_INSTRUCTION, SVC, SMC, HVC, PREFETCH_ABORT, DATA_ABORT, MONITOR_TRAP}

@@ -1,7 +1,7 @@
 -- `way` at each code, on each way through the tests of that event: what the definition says is what the code answers.
-use Rattle.std.proofs.Common.{◌≡◌, ℕ, ◌^◌, ◌<◌, Bool, true, false, not, ◌&&◌, ◌||◌, refl, arith}
+use Rattle.std.proofs.Common.{◌≡◌, ℕ, ◌^◌, ◌<◌, Bool, true, false, not, ◌&&◌, ◌||◌, refl, arith, if◌then◌else◌}
 use borrow.Author.Tests.{not-true}
-use Rattle.state.specs.Choice.{if◌then◌else◌, ◌is◌}
+use Rattle.state.specs.Choice.{◌is◌}
 use Rattle.state.specs.Field.{mode_field, CPSR_T, SCR_EA, SCR_SCD, SCR_HCE, HCR_TSC}
 use Rattle.state.specs.Mode.{USER, SUPERVISOR, MONITOR, ABORT, HYP, UNDEFINED, el1, el1_modes}
 use Rattle.state.specs.Number.{NOT_HERE, DISABLED}

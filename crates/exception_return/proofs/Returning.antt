@@ -1,4 +1,5 @@
 -- A return, on each way through its tests, comes to what the rows of refusals and the rules say.
+use Rattle.std.specs.Prelude.{if◌then◌else◌}
 use mathlib.Core.Path.{◌≡◌, refl, sym, ap, ◌∙◌}
 use mathlib.Core.Bool.{Bool, true, false, not, ◌&&◌, ◌||◌}
 use mathlib.Core.List.{List}
@@ -7,7 +8,7 @@ use native.Mathlib.Omega.{arith}
 use borrow.Author.Tests.{eq-eqb, ne_eqb, not-true, not-false}
 use lib.ListN.{length}
 use Rattle.words.specs.Word.{word, put}
-use Rattle.state.specs.Choice.{if◌then◌else◌, ◌is◌}
+use Rattle.state.specs.Choice.{◌is◌}
 use Rattle.state.specs.Field.{mode_field, SCR_NS}
 use Rattle.state.specs.Mode.{HYP, is_target, spsr_place, lr_place}
 use Rattle.state.specs.Number.{DONE, BAD_STATE, BAD_EVENT, NOT_HERE}

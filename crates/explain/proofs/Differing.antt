@@ -1,5 +1,6 @@
 -- The first difference is the part at which the two words differ and before which all agree: a walk over the parts stops
 -- there and nowhere else.
+use Rattle.std.specs.Prelude.{if◌then◌else◌}
 use mathlib.Core.Path.{◌≡◌, refl, sym, ap, ◌∙◌}
 use mathlib.Core.Bool.{Bool, true, false}
 use mathlib.Core.Logic.{◌⊎◌, inl, inr}
@@ -9,7 +10,7 @@ use native.Mathlib.Omega.{arith}
 use lib.Dec.{eqb}
 use borrow.Author.Tests.{eq-eqb, ne_eqb, eqb-true, eqb-false}
 use Rattle.words.specs.Word.{word}
-use Rattle.state.specs.Choice.{if◌then◌else◌, ◌is◌}
+use Rattle.state.specs.Choice.{◌is◌}
 use Rattle.rules.specs.declared.verdict.Answer.{Answer}
 use Rattle.explain.specs.declared.Difference.{Difference}
 use Rattle.explain.specs.Explain.{NUMBER_PART, VALUE_PART, BLOCK_PART, part_word, none, differing}

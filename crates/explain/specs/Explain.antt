@@ -5,9 +5,9 @@
 -- answer number, 2 the value, 3 + p the word at the place p of the block after. The block before is the one that the
 -- events of the right Steps lead to from the start block. For any other report there is nothing to explain, and part,
 -- found and due are 0.
-use Rattle.std.specs.Prelude.{List, ℕ, zero, suc, ◌+◌, ◌-◌, ◌/◌, take, drop}
+use Rattle.std.specs.Prelude.{List, ℕ, zero, suc, ◌+◌, ◌-◌, ◌/◌, take, drop, if◌then◌else◌}
 use Rattle.words.specs.Word.{spelt, word}
-use Rattle.state.specs.Choice.{if◌then◌else◌, ◌is◌}
+use Rattle.state.specs.Choice.{◌is◌}
 use Rattle.rules.specs.declared.verdict.Answer.{Answer}
 use Rattle.records.specs.declared.report.Report.{Report}
 use Rattle.records.specs.Layout.{Layout, start_size, number_at, value_at, block_after_at}

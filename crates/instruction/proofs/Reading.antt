@@ -1,9 +1,9 @@
 -- The parts of a word, by the places that the two tables give its fields.
+use Rattle.std.specs.Prelude.{if◌then◌else◌}
 use mathlib.Core.Path.{◌≡◌, refl, sym, ap, ◌∙◌}
 use mathlib.Core.Bool.{true, false}
 use Prim.Native.Nat.{ℕ, ◌+◌, ◌*◌, ◌/◌, ◌%◌, ◌^◌, ◌<◌}
 use native.Mathlib.Omega.{arith}
-use Rattle.state.specs.Choice.{if◌then◌else◌}
 use Rattle.entry.specs.Code.{BANKED_READ, BANKED_WRITE}
 use Rattle.instruction.specs.Encoding.{MRS, MSR}
 use Rattle.instruction.specs.Instruction.{Parts, laid_out, in_range, parts_in, no_parts, reading}

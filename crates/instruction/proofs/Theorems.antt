@@ -1,5 +1,6 @@
 -- Reading and writing undo each other. What is true of both tables is proved over any that tiles a word (Tables.antt), and what is done
 -- by either over any that has what each of the two has (Kept).
+use Rattle.std.specs.Prelude.{if◌then◌else◌}
 use mathlib.Core.Path.{◌≡◌, refl, sym, ap, subst, ◌∙◌}
 use mathlib.Core.Bool.{Bool, true, false, ◌&&◌, ◌||◌}
 use mathlib.Core.List.{List, [], ◌∷◌}
@@ -9,7 +10,7 @@ use native.Mathlib.Omega.{arith}
 use native.Mathlib.Nat.{mod-eq_of_lt}
 use lib.Dec.{ltb, lit<}
 use borrow.Author.Tests.{eq-eqb, ne_eqb, eqb-true, eqb-false, lt-ltb}
-use Rattle.state.specs.Choice.{if◌then◌else◌, ◌is◌}
+use Rattle.state.specs.Choice.{◌is◌}
 use Rattle.state.specs.Number.{DONE, NOT_BANKED}
 use Rattle.state.proofs.Test.{and_left, and_right, both, refuted, true_is_not_false}
 use Rattle.entry.specs.Code.{BANKED_READ, BANKED_WRITE}

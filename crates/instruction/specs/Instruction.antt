@@ -1,7 +1,7 @@
 -- The parts of an instruction word, "code 10 or 11, A 0-63, condition 0-14 and register 0-14", read off its fields, and the word put
 -- together of them (document 02, No. 14). "Anything else is 18 both ways, with the parts or the word 0."
-use Rattle.std.specs.Prelude.{Bool, true, ◌&&◌, ◌||◌, List, [], ◌∷◌, ℕ, ◌+◌, ◌*◌, ◌/◌, ◌%◌, ◌^◌, ltb}
-use Rattle.state.specs.Choice.{if◌then◌else◌, ◌is◌}
+use Rattle.std.specs.Prelude.{Bool, true, ◌&&◌, ◌||◌, List, [], ◌∷◌, ℕ, ◌+◌, ◌*◌, ◌/◌, ◌%◌, ◌^◌, ltb, if◌then◌else◌}
+use Rattle.state.specs.Choice.{◌is◌}
 use Rattle.state.specs.Number.{DONE, NOT_BANKED}
 use Rattle.entry.specs.Code.{BANKED_READ, BANKED_WRITE}
 use Rattle.instruction.specs.Encoding.{Name, cond, R, M1, Rd, Rn, M, none}

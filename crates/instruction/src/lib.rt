@@ -1,8 +1,7 @@
 // Instruction words (document 02, No. 14): MRS and MSR of a banked register, read into the parts of an event, and written of them.
 #![tactic(auto)]
 
-ghost use Rattle.std.specs.Prelude.{◌≡◌, ◌+◌, ◌*◌, ◌/◌, ◌%◌, ◌<◌, ◌&&◌, ltb};
-ghost use Rattle.state.specs.Choice.{if◌then◌else◌};
+ghost use Rattle.std.specs.Prelude.{◌≡◌, ◌+◌, ◌*◌, ◌/◌, ◌%◌, ◌<◌, ◌&&◌, ltb, if◌then◌else◌};
 ghost use Rattle.instruction.specs.Places.{has_bits, a_in, shared_of};
 ghost use Rattle.instruction.specs.Instruction.{in_range, no_parts, reading, writing};
 

@@ -1,5 +1,6 @@
 -- The decision table: the 256 numbers of the code are the entries, a test over the whole table; and an entry says of any kind, in
 -- any state with the bits of its index, whether the physical exception is taken, and where it goes.
+use Rattle.std.specs.Prelude.{if◌then◌else◌}
 use mathlib.Core.Path.{◌≡◌, refl, sym, ap, ◌∙◌}
 use mathlib.Core.Bool.{Bool, true, false, not, ◌&&◌, ◌||◌}
 use mathlib.Core.List.{List, [], ◌∷◌, map}
@@ -8,7 +9,7 @@ use native.Mathlib.Omega.{arith}
 use lib.Dec.{eqb, leb, ltb, lit<}
 use lib.ListN.{get_or}
 use borrow.Author.Tests.{eqb-true, le-leb, ltb-true, ltb-false}
-use Rattle.state.specs.Choice.{if◌then◌else◌, ◌is◌, ◌among◌}
+use Rattle.state.specs.Choice.{◌is◌, ◌among◌}
 use Rattle.state.specs.Field.{mode_field, HCR_TGE}
 use Rattle.state.specs.Mode.{MONITOR, HYP}
 use Rattle.state.specs.State.{secure}

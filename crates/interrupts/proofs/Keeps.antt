@@ -1,9 +1,10 @@
 -- Where an interrupt goes, a good state stays good: one test over the modes and the bits, for any kind.
+use Rattle.std.specs.Prelude.{if◌then◌else◌}
 use mathlib.Core.Path.{◌≡◌, refl}
 use mathlib.Core.Bool.{Bool, true, not, ◌&&◌, ◌||◌}
 use mathlib.Core.List.{List, [], ◌∷◌}
 use Prim.Native.Nat.{ℕ}
-use Rattle.state.specs.Choice.{if◌then◌else◌, ◌is◌, ◌among◌}
+use Rattle.state.specs.Choice.{◌is◌, ◌among◌}
 use Rattle.state.specs.Field.{mode_field, SCR_NS, HCR_TGE}
 use Rattle.state.specs.Mode.{FIQ, IRQ, ABORT, MONITOR, HYP, modes, known, el1}
 use Rattle.state.proofs.Good.{stands, Good}

@@ -1,11 +1,12 @@
 -- The masking table asked quickly, the virtual exceptions asked together, and the first of the six on each way through.
+use Rattle.std.specs.Prelude.{if◌then◌else◌}
 use mathlib.Core.Path.{◌≡◌, refl, ap, ◌∙◌}
 use mathlib.Core.Bool.{Bool, true, false, not, ◌&&◌, ◌||◌}
 use mathlib.Core.List.{List, [], ◌∷◌}
 use Prim.Native.Nat.{ℕ, suc}
 use lib.Dec.{eqb}
 use borrow.Author.Tests.{eqb-true}
-use Rattle.state.specs.Choice.{if◌then◌else◌, ◌is◌}
+use Rattle.state.specs.Choice.{◌is◌}
 use Rattle.state.specs.Field.{mode_field, SCR_NS, HCR_TGE}
 use Rattle.state.specs.Mode.{HYP, guest}
 use Rattle.state.specs.State.{secure, ns_el1, ns_user}

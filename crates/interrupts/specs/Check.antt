@@ -1,6 +1,6 @@
 -- What an interrupt check takes, and where that goes (document 01, "The interrupt check").
-use Rattle.std.specs.Prelude.{Bool, true, false, not, ◌&&◌, ◌||◌, List, [], ◌∷◌, ℕ}
-use Rattle.state.specs.Choice.{if◌then◌else◌, ◌is◌}
+use Rattle.std.specs.Prelude.{Bool, true, false, not, ◌&&◌, ◌||◌, List, [], ◌∷◌, ℕ, if◌then◌else◌}
+use Rattle.state.specs.Choice.{◌is◌}
 use Rattle.state.specs.Field.{mode_field, HCR_TGE}
 use Rattle.state.specs.Mode.{MONITOR, HYP}
 use Rattle.state.specs.Number.{NOT_HERE}

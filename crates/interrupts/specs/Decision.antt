@@ -1,7 +1,7 @@
 -- The decision table (document 02, No. 4): what document 01 gives one physical exception alone, by an index of eight bits. An
 -- entry goes by the rules themselves, in a state that has the index's bits; the exception is FIQ there, whose W is a bit of SCR.
-use Rattle.std.specs.Prelude.{Bool, not, ℕ, ◌+◌, ◌*◌, ◌/◌, leb}
-use Rattle.state.specs.Choice.{if◌then◌else◌, ◌is◌}
+use Rattle.std.specs.Prelude.{Bool, not, ℕ, ◌+◌, ◌*◌, ◌/◌, leb, if◌then◌else◌}
+use Rattle.state.specs.Choice.{◌is◌}
 use Rattle.state.specs.Field.{bit, flag, mode_field, HCR_TGE}
 use Rattle.state.specs.Mode.{USER, SUPERVISOR, MONITOR, HYP}
 use Rattle.state.specs.State.{secure}

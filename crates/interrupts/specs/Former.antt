@@ -1,7 +1,7 @@
 -- The rule that document 01 had before No. 5 of document 02, kept to say what that request changed: M of the masking table is
 -- the override bit as stored. No other definition, no contract and no code goes by it.
-use Rattle.std.specs.Prelude.{Bool, not, ◌&&◌, List, [], ◌∷◌, ℕ, leb}
-use Rattle.state.specs.Choice.{if◌then◌else◌, ◌is◌}
+use Rattle.std.specs.Prelude.{Bool, not, ◌&&◌, List, [], ◌∷◌, ℕ, leb, if◌then◌else◌}
+use Rattle.state.specs.Choice.{◌is◌}
 use Rattle.state.specs.Field.{mode_field}
 use Rattle.state.specs.Mode.{HYP}
 use Rattle.state.specs.State.{secure}

@@ -1,7 +1,6 @@
 -- The masking table (document 01, "The interrupt check"; Tables G1-16 to G1-18 of Arm's source 003): is the PSTATE mask
 -- bit obeyed? It is held as the paper's seven rows.
-use Rattle.std.specs.Prelude.{Bool, true, false, not, ◌&&◌, List, [], ◌∷◌}
-use Rattle.state.specs.Choice.{if◌then◌else◌}
+use Rattle.std.specs.Prelude.{Bool, true, false, not, ◌&&◌, List, [], ◌∷◌, if◌then◌else◌}
 
 -- the first column: the states that a row covers
 pub data Who : Type 0 where

@@ -1,4 +1,5 @@
 -- An event that the old layout knows touches no byte behind the old block: every word that it writes lies before HDCR.
+use Rattle.std.specs.Prelude.{if◌then◌else◌}
 use mathlib.Core.Path.{◌≡◌, refl, sym, ap, ◌∙◌}
 use mathlib.Core.Bool.{Bool, true, false, not, ◌&&◌, ◌||◌}
 use mathlib.Core.List.{List}
@@ -8,7 +9,7 @@ use borrow.Author.Tests.{eqb-true, eqb-false, eq-eqb}
 use lib.ListN.{length, drop}
 use Rattle.words.specs.Word.{word, put}
 use Rattle.words.proofs.Laws.{drop-put}
-use Rattle.state.specs.Choice.{if◌then◌else◌, ◌is◌}
+use Rattle.state.specs.Choice.{◌is◌}
 use Rattle.state.specs.Field.{without, mode_field}
 use Rattle.state.specs.Mode.{MONITOR, HYP, is_target, spsr_place, lr_place}
 use Rattle.state.specs.Number.{DONE}

@@ -1,5 +1,6 @@
 -- An interrupt check takes the first exception that is pending and not masked: by what is found, the answer and the block
 -- are those of its entry, or nothing is taken.
+use Rattle.std.specs.Prelude.{if◌then◌else◌}
 use mathlib.Core.Path.{◌≡◌, refl, sym, ap, ◌∙◌}
 use mathlib.Core.Bool.{Bool, true, false, not}
 use mathlib.Core.List.{List, [], ◌∷◌}
@@ -9,7 +10,7 @@ use native.Mathlib.Omega.{arith}
 use lib.Dec.{lit<}
 use borrow.Author.Tests.{not-true, eq-eqb}
 use Rattle.words.specs.Word.{word}
-use Rattle.state.specs.Choice.{if◌then◌else◌, ◌is◌}
+use Rattle.state.specs.Choice.{◌is◌}
 use Rattle.state.specs.Number.{DONE}
 use Rattle.state.specs.Place.{CPSR, PC, SCR, HCR}
 use Rattle.state.proofs.Test.{and_left, and_right, both, true_is_not_false}

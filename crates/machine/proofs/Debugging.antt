@@ -1,5 +1,6 @@
 -- A debug abort that TDE traps is routed as one of stage 2 (entry's routed_a), which from there goes to Hyp; any other by its own A, of
 -- which neither bit that routing asks for is set, as none of A 0 is.
+use Rattle.std.specs.Prelude.{if◌then◌else◌}
 use mathlib.Core.Path.{◌≡◌, refl, sym, ap, ◌∙◌}
 use mathlib.Core.Bool.{Bool, true, false, not, ◌&&◌, ◌||◌}
 use mathlib.Core.List.{List}
@@ -7,7 +8,7 @@ use Prim.Native.Nat.{ℕ}
 use lib.ListN.{length}
 use borrow.Author.Tests.{eq-eqb}
 use Rattle.words.specs.Word.{word}
-use Rattle.state.specs.Choice.{if◌then◌else◌, ◌is◌}
+use Rattle.state.specs.Choice.{◌is◌}
 use Rattle.state.specs.Field.{mode_field, HDCR_TDE}
 use Rattle.state.specs.Mode.{HYP, known}
 use Rattle.state.specs.Number.{DONE}

@@ -1,5 +1,6 @@
 -- A banked access that no row before its right refuses answers what the right says, and no other event is answered NO_RIGHT or
 -- OWN_REGISTER: every other row has another number.
+use Rattle.std.specs.Prelude.{if◌then◌else◌}
 use mathlib.Core.Path.{◌≡◌, refl, sym, ap, ◌∙◌}
 use mathlib.Core.Bool.{Bool, true, false, not, ◌&&◌}
 use mathlib.Core.List.{List, [], ◌∷◌}
@@ -8,7 +9,7 @@ use Prim.Native.Nat.{ℕ}
 use lib.ListN.{length}
 use borrow.Author.Tests.{eqb-true, eqb-false, eq-eqb, not-true, not-false}
 use Rattle.words.specs.Word.{word}
-use Rattle.state.specs.Choice.{if◌then◌else◌, ◌is◌, ◌among◌}
+use Rattle.state.specs.Choice.{◌is◌, ◌among◌}
 use Rattle.state.specs.Field.{mode_field}
 use Rattle.state.specs.Mode.{USER}
 use Rattle.state.specs.Number.{DONE, BAD_MODE, BAD_STATE, NO_RIGHT, OWN_REGISTER}

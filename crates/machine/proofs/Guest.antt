@@ -1,5 +1,6 @@
 -- A Non-secure EL1 mode is allowed no access at an exempt place, which is tried at each of the 64 cells and in each of the six modes:
 -- so an access comes to the same on two blocks that are alike outside, and reads and writes there alone.
+use Rattle.std.specs.Prelude.{if◌then◌else◌}
 use mathlib.Core.Path.{◌≡◌, refl, sym, ap, ◌∙◌}
 use mathlib.Core.Bool.{Bool, true, false, not}
 use mathlib.Core.List.{List, [], ◌∷◌}
@@ -9,7 +10,7 @@ use lib.ListN.{length, take}
 use borrow.Author.Tests.{eqb-true, eqb-false, not-true}
 use Rattle.words.specs.Word.{spelt, word, put}
 use Rattle.words.proofs.Laws.{length-put, byte_other, byte_alike, word-put_other}
-use Rattle.state.specs.Choice.{if◌then◌else◌, ◌is◌}
+use Rattle.state.specs.Choice.{◌is◌}
 use Rattle.state.specs.Field.{mode_field}
 use Rattle.state.specs.Mode.{el1_modes, el1}
 use Rattle.state.specs.Number.{DONE, BAD_EVENT, NO_REGISTER}

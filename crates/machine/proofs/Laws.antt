@@ -1,4 +1,5 @@
 -- What a caller of the step expects: it keeps the block's length, bytes stay bytes, and number and value are words.
+use Rattle.std.specs.Prelude.{if◌then◌else◌}
 use mathlib.Core.Path.{◌≡◌, refl, sym, ◌∙◌}
 use mathlib.Core.Bool.{Bool, true, false, not, ◌&&◌}
 use mathlib.Core.List.{List, [], ◌∷◌}
@@ -9,7 +10,7 @@ use borrow.Author.Tests.{eqb-true, ltb-true, lt-ltb}
 use lib.ListN.{length}
 use Rattle.words.specs.Word.{word, put, Bytes}
 use Rattle.words.proofs.Laws.{length-put, bytes_put, spelt_fits}
-use Rattle.state.specs.Choice.{if◌then◌else◌, ◌is◌, Row, first_of}
+use Rattle.state.specs.Choice.{◌is◌, Row, first_of}
 use Rattle.state.specs.Field.{mode_field, without}
 use Rattle.state.specs.Mode.{USER, HYP, MONITOR}
 use Rattle.state.specs.Number.{DONE}

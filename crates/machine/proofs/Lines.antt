@@ -1,11 +1,11 @@
 -- A check with a virtual line is seen as an event of no code, which a good block refuses; any other is seen as it is.
+use Rattle.std.specs.Prelude.{if◌then◌else◌}
 use mathlib.Core.Path.{◌≡◌, refl, sym, ap, ◌∙◌}
 use mathlib.Core.Bool.{Bool, true, false}
 use mathlib.Core.List.{List}
 use Prim.Native.Nat.{ℕ}
 use lib.ListN.{length}
 use borrow.Author.Tests.{eq-eqb, eqb-false}
-use Rattle.state.specs.Choice.{if◌then◌else◌}
 use Rattle.state.specs.Number.{DONE, BAD_EVENT}
 use Rattle.state.specs.Place.{BLOCK_SIZE}
 use Rattle.state.specs.State.{fault}

@@ -1,10 +1,11 @@
 -- The number of the first row that applies is the one that is given, and no other number is.
+use Rattle.std.specs.Prelude.{if◌then◌else◌}
 use mathlib.Core.Path.{◌≡◌, refl, sym, ◌∙◌}
 use mathlib.Core.Bool.{Bool, true, false, not}
 use mathlib.Core.List.{List, [], ◌∷◌}
 use mathlib.Core.Logic.{◌↔◌}
 use Prim.Native.Nat.{ℕ}
-use Rattle.state.specs.Choice.{if◌then◌else◌, Row, first_of}
+use Rattle.state.specs.Choice.{Row, first_of}
 use Rattle.state.specs.Number.{DONE, BAD_SIZE}
 use Rattle.rules.specs.Refusal.{rows, refusal}
 use Rattle.rules.specs.Step.{answer, sized, number_returned}

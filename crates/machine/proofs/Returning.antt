@@ -1,5 +1,6 @@
 -- What a return leaves, and that a return behind an entry restores what the entry saved: the entry saves CPSR and the link where
 -- the return looks for them, and the mode that was left may be returned to.
+use Rattle.std.specs.Prelude.{if◌then◌else◌}
 use mathlib.Core.Path.{◌≡◌, refl, sym, ap, ◌∙◌}
 use mathlib.Core.Bool.{Bool, true, false, not, ◌&&◌, ◌||◌}
 use mathlib.Core.List.{List, [], ◌∷◌}
@@ -11,7 +12,7 @@ use lib.Dec.{lit<}
 use lib.ListN.{length}
 use Rattle.words.specs.Word.{word, put, Bytes}
 use Rattle.words.proofs.Laws.{length-put, word-put_same, word-put_other, spelt_fits}
-use Rattle.state.specs.Choice.{if◌then◌else◌, ◌is◌, ◌among◌}
+use Rattle.state.specs.Choice.{◌is◌, ◌among◌}
 use Rattle.state.specs.Field.{bit, bits, mode_field, CPSR_T, SCR_NS, HCR_TGE}
 use Rattle.state.specs.Mode.{MONITOR, HYP, is_target, spsr_place, lr_place, known, el1}
 use Rattle.state.specs.Number.{DONE}

@@ -1,5 +1,6 @@
 -- The decision table says what the machine does: with one line alone nothing stands before its physical exception in the order,
 -- so a check takes it exactly if it can be taken, and there the entry is the number of where it goes.
+use Rattle.std.specs.Prelude.{if◌then◌else◌}
 use mathlib.Core.Path.{◌≡◌, refl, sym, ap, subst, ◌∙◌}
 use mathlib.Core.Bool.{Bool, true, false, not, ◌&&◌, ◌||◌}
 use mathlib.Core.List.{List}
@@ -8,7 +9,7 @@ use Prim.Native.Nat.{ℕ}
 use lib.ListN.{length}
 use borrow.Author.Tests.{eq-eqb, eqb-true, eqb-false}
 use Rattle.words.specs.Word.{word}
-use Rattle.state.specs.Choice.{if◌then◌else◌, ◌is◌}
+use Rattle.state.specs.Choice.{◌is◌}
 use Rattle.state.specs.Field.{mode_field, SCR_NS, HCR_TGE}
 use Rattle.state.specs.Mode.{MONITOR, HYP}
 use Rattle.state.specs.Number.{DONE}

@@ -1,8 +1,8 @@
 -- Words for what the theorems say of a step: the first row that applies, an access that hangs on its right alone, what can be
 -- taken at an interrupt check and which is taken, what an entry leaves of SCR and HCR, and what it is to be a step.
-use Rattle.std.specs.Prelude.{◌≡◌, Bool, true, false, not, ◌&&◌, ◌||◌, ◌⊎◌, List, [], ◌∷◌, ℕ, ◌<◌, ◌^◌, length}
+use Rattle.std.specs.Prelude.{◌≡◌, Bool, true, false, not, ◌&&◌, ◌||◌, ◌⊎◌, List, [], ◌∷◌, ℕ, ◌<◌, ◌^◌, length, if◌then◌else◌}
 use Rattle.words.specs.Word.{word, Bytes}
-use Rattle.state.specs.Choice.{if◌then◌else◌, ◌is◌, Row}
+use Rattle.state.specs.Choice.{◌is◌, Row}
 use Rattle.state.specs.Field.{without, mode_field, HDCR_TDE}
 use Rattle.state.specs.Mode.{MONITOR, HYP}
 use Rattle.state.specs.Number.{DONE, BAD_SIZE}

@@ -1,8 +1,8 @@
 -- A return, and an entry with the return behind it (document 02, No. 9): what an illegal return keeps, what a return takes off, and
 -- what an entry and its return leave together.
-use Rattle.std.specs.Prelude.{◌≡◌, Bool, true, List, [], ◌∷◌, ℕ}
+use Rattle.std.specs.Prelude.{◌≡◌, Bool, true, List, [], ◌∷◌, ℕ, if◌then◌else◌}
 use Rattle.words.specs.Word.{word}
-use Rattle.state.specs.Choice.{if◌then◌else◌, ◌is◌, ◌among◌}
+use Rattle.state.specs.Choice.{◌is◌, ◌among◌}
 use Rattle.state.specs.Field.{bit, bits, mode_field, CPSR_T}
 use Rattle.state.specs.Mode.{HYP}
 use Rattle.state.specs.Number.{DONE}

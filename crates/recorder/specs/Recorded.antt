@@ -1,7 +1,7 @@
 -- A recorder of our own (document 02, No. 7): from a start block and a list of events the published trace is written into a lent
 -- buffer, from an offset that the caller gives. Its bytes before the offset and behind the trace stay; a refusal changes no byte.
-use Rattle.std.specs.Prelude.{◌≡◌, Bool, ◌&&◌, List, ◌++◌, ℕ, ◌+◌, ◌*◌, ◌-◌, length, take, drop, leb}
-use Rattle.state.specs.Choice.{if◌then◌else◌, ◌is◌}
+use Rattle.std.specs.Prelude.{◌≡◌, Bool, ◌&&◌, List, ◌++◌, ℕ, ◌+◌, ◌*◌, ◌-◌, length, take, drop, leb, if◌then◌else◌}
+use Rattle.state.specs.Choice.{◌is◌}
 use Rattle.rules.specs.declared.event.Event.{Event}
 use Rattle.records.specs.Layout.{Layout, start_size, step_size, end_size, most_steps}
 use Rattle.records.specs.Published.{published}

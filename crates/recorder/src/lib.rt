@@ -4,8 +4,8 @@
 // needs no block of its own: the one before a Step is copied to its place in the new record, and stepped there.
 #![tactic(auto)]
 
-ghost use Rattle.std.specs.Prelude.{◌≡◌, ◌++◌, ◌+◌, ◌-◌, ◌≤◌, length, take, drop};
-ghost use Rattle.state.specs.Choice.{if◌then◌else◌, ◌is◌};
+ghost use Rattle.std.specs.Prelude.{◌≡◌, ◌++◌, ◌+◌, ◌-◌, ◌≤◌, length, take, drop, if◌then◌else◌};
+ghost use Rattle.state.specs.Choice.{◌is◌};
 ghost use Rattle.records.specs.Layout.{new_layout, start_size, step_size, end_size, most_steps, place_of, number_at, block_after_at};
 ghost use Rattle.records.specs.Published.{head, event_bytes, start_record, step_record, end_record};
 ghost use Rattle.recorder.specs.Recorded.{DONE, written_at, block_before, trace_size, record_number};
@@ -16,8 +16,8 @@ use rules::event::Event;
 use rules::known::direct_code;
 use state::number;
 use state::place::BLOCK_SIZE;
-use words::runs::copy;
 use words::put_word;
+use words::runs::copy;
 
 // The bytes of the records.
 const START_SIZE: usize = layout::START_SIZE as usize;

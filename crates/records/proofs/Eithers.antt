@@ -1,4 +1,5 @@
 -- What is proved of the traces of either layout, by what is proved of each: the head of its Start tells a string's layout (Heads.antt).
+use Rattle.std.specs.Prelude.{if◌then◌else◌}
 use mathlib.Core.Path.{◌≡◌, refl, sym, ap, ◌∙◌, subst}
 use mathlib.Core.Logic.{◌⊎◌, inl, inr, ◌↔◌}
 use mathlib.Core.Bool.{Bool, true, false, not}
@@ -11,7 +12,6 @@ use Rattle.words.specs.Word.{half, spelt, Bytes}
 use Rattle.words.proofs.Spell.{bytes_none, bytes_zeros}
 use Rattle.rules.specs.declared.event.Event.{Event}
 use Rattle.rules.specs.declared.verdict.Answer.{Answer}
-use Rattle.state.specs.Choice.{if◌then◌else◌}
 use Rattle.records.specs.declared.report.Report.{Report}
 use Rattle.records.specs.Layout.{Layout, old_layout, new_layout, layout, is_old, layout_of}
 use Rattle.records.specs.Layout.{head_size, start_size, step_size, end_size, most_steps, place_of, kind_at, count_at}

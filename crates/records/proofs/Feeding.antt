@@ -1,5 +1,6 @@
 -- What bytes do to a session. Up to the next place where it is looked at they are only held; a record that is there whole is
 -- judged by its own bytes, however they came.
+use Rattle.std.specs.Prelude.{if◌then◌else◌}
 use mathlib.Core.Path.{◌≡◌, refl, sym, ap, ◌∙◌}
 use mathlib.Core.Bool.{Bool, true, false, ◌&&◌}
 use mathlib.Core.Logic.{◌⊎◌, inl, inr}
@@ -13,7 +14,7 @@ use lib.Dec.{eqb, leb, ltb}
 use borrow.Author.Tests.{lt-ltb, le-ltb, eq-eqb, ne_eqb, leb-true, leb-false, ltb-true, ltb-false, eqb-true, eqb-false}
 use Rattle.words.specs.Word.{half}
 use Rattle.words.proofs.Spell.{half_front, spelt_front}
-use Rattle.state.specs.Choice.{if◌then◌else◌, ◌is◌}
+use Rattle.state.specs.Choice.{◌is◌}
 use Rattle.records.specs.declared.session.Progress.{Progress}
 use Rattle.records.specs.declared.session.Session.{Session}
 use Rattle.records.specs.Layout.{Layout, head_size, start_size, step_size, end_size, end_kind, length_at, kind_at, count_at, start_block_at}

@@ -1,6 +1,7 @@
 -- The session that is shipped is, byte for byte, one of the layout of the bytes that came, with zeros behind it: while fewer bytes than
 -- a head have come, those of both layouts are the same; the head then tells the layout for good, and behind the Start the stage does;
 -- behind the End, and once a fault is known, the layout makes no difference.
+use Rattle.std.specs.Prelude.{if◌then◌else◌}
 use mathlib.Core.Path.{◌≡◌, refl, sym, ap, ◌∙◌, subst}
 use mathlib.Core.Bool.{Bool, true, false, not, ◌&&◌}
 use mathlib.Core.Logic.{◌⊎◌, inl, inr, ◌↔◌}
@@ -12,7 +13,7 @@ use lib.Seq.{sets, sets-eq, take_at, drop_at, take-append-le, take-append_seam, 
 use lib.Dec.{eqb, leb, lit<}
 use borrow.Author.Tests.{eq-eqb, ne_eqb, eqb-false}
 use Rattle.words.specs.Word.{Bytes}
-use Rattle.state.specs.Choice.{if◌then◌else◌, ◌is◌}
+use Rattle.state.specs.Choice.{◌is◌}
 use Rattle.records.specs.declared.report.Report.{Report}
 use Rattle.records.specs.declared.session.Progress.{Progress}
 use Rattle.records.specs.declared.session.Session.{Session}

@@ -1,5 +1,6 @@
 -- Both layouts are lawful: their numbers are small, and the step keeps a block's size and bytes and answers words. An event that the
 -- old one knows leaves HDCR 0.
+use Rattle.std.specs.Prelude.{if◌then◌else◌}
 use mathlib.Core.Path.{◌≡◌, refl, sym, ap, ◌∙◌}
 use mathlib.Core.Bool.{Bool, true, false, ◌&&◌}
 use mathlib.Core.List.{List, ◌++◌, append-nil}
@@ -11,7 +12,6 @@ use lib.Seq.{take_at, take_all, take-length, drop_at}
 use Rattle.words.specs.Word.{le32, Bytes}
 use Rattle.words.proofs.Laws.{bytes_le32}
 use Rattle.words.proofs.Spell.{bytes_append, bytes_take}
-use Rattle.state.specs.Choice.{if◌then◌else◌}
 use Rattle.state.specs.Place.{BLOCK_SIZE, OLD_BLOCK_SIZE}
 use Rattle.rules.specs.Known.{unknown_to_old, seen}
 use Rattle.rules.specs.Step.{answer, after}

@@ -1,5 +1,6 @@
 -- What a report says of the bytes: where the record at which it was decided has a fault, that fault says which bytes are
 -- there, and no published trace has them.
+use Rattle.std.specs.Prelude.{if◌then◌else◌}
 use mathlib.Core.Path.{◌≡◌, refl, sym, ap, ◌∙◌, subst}
 use mathlib.Core.Bool.{false}
 use mathlib.Core.Logic.{◌⊎◌, inl, inr, ⊎_elim, ◌↔◌}
@@ -11,7 +12,6 @@ use lib.Seq.{take_at, length-take-le}
 use lib.Dec.{eqb, lit<}
 use borrow.Author.Tests.{ne_eqb, lt-ltb, le-ltb}
 use Rattle.words.specs.Word.{spelt, Bytes}
-use Rattle.state.specs.Choice.{if◌then◌else◌}
 use Rattle.records.specs.declared.report.Report.{Report}
 use Rattle.records.specs.Layout.{Layout, Lawful, head_size, start_size, step_size, end_size, end_kind, most_steps, place_of, count_at}
 use Rattle.records.specs.Published.{start_record, step_records, published, Published}

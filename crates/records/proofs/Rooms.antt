@@ -1,5 +1,6 @@
 -- A session has room for either layout: a buffer is zeros after zeros are copied over it, and a run of bytes that comes to the front
 -- of its own layout's sizes leaves what lies behind it.
+use Rattle.std.specs.Prelude.{if◌then◌else◌}
 use mathlib.Core.Path.{◌≡◌, refl, sym, ap, ◌∙◌}
 use mathlib.Core.Bool.{Bool, true, false, not, ◌&&◌}
 use mathlib.Core.List.{List, ◌∷◌, ◌++◌}
@@ -7,7 +8,7 @@ use Prim.Native.Nat.{ℕ, zero, suc, ◌≤◌}
 use native.Mathlib.Omega.{arith}
 use lib.ListN.{length, take, drop, replicate, length-replicate}
 use lib.Seq.{length-take-le}
-use Rattle.state.specs.Choice.{if◌then◌else◌, ◌is◌}
+use Rattle.state.specs.Choice.{◌is◌}
 use Rattle.records.specs.declared.session.Session.{Session}
 use Rattle.records.specs.Layout.{layout, step_size}
 use Rattle.records.specs.Session.{session, fed, comes_old, narrowed, widened, numbers_of, fed_session}

@@ -1,6 +1,7 @@
 -- What a session is to which these bytes have come, and no others: the Start's are held until it is whole; behind it the layout's stage
 -- stands, and behind the End the last; once a fault is known nothing is kept. No fault is known, and no stage left, before a head has
 -- come. Each byte keeps that.
+use Rattle.std.specs.Prelude.{if◌then◌else◌}
 use mathlib.Core.Path.{◌≡◌, refl, sym, ap, ◌∙◌, subst}
 use mathlib.Core.Bool.{Bool, true, false}
 use mathlib.Core.Logic.{◌⊎◌, inl, inr}
@@ -11,7 +12,7 @@ use lib.ListN.{length, replicate, length-append, length-replicate}
 use lib.Seq.{length-sets}
 use lib.Dec.{eqb, leb, ltb}
 use borrow.Author.Tests.{eqb-true, eqb-false, lt-leb, le-ltb}
-use Rattle.state.specs.Choice.{if◌then◌else◌, ◌is◌}
+use Rattle.state.specs.Choice.{◌is◌}
 use Rattle.records.specs.declared.session.Progress.{Progress}
 use Rattle.records.specs.declared.session.Session.{Session}
 use Rattle.records.specs.Layout.{Layout, Lawful, head_size, start_size, step_size, end_size}

@@ -1,8 +1,7 @@
 -- Words for what the theorems say of a report: what stands before its place, how far the string was judged, what a cut and
 -- a changed trace are, what it is to be a checker, and the wrong checkers that the paper names.
-use Rattle.std.specs.Prelude.{◌≡◌, ◌⊎◌, ◌↔◌, List, [], ◌∷◌, ◌++◌, ℕ, zero, suc, ◌+◌, ◌<◌, ◌≤◌, length, take, drop, get_or, eqb, ltb}
+use Rattle.std.specs.Prelude.{◌≡◌, ◌⊎◌, ◌↔◌, List, [], ◌∷◌, ◌++◌, ℕ, zero, suc, ◌+◌, ◌<◌, ◌≤◌, length, take, drop, get_or, eqb, ltb, if◌then◌else◌}
 use Rattle.words.specs.Word.{spelt, Bytes}
-use Rattle.state.specs.Choice.{if◌then◌else◌}
 use Rattle.rules.specs.declared.event.Event.{Event}
 use Rattle.rules.specs.declared.verdict.Answer.{Answer}
 use Rattle.records.specs.declared.report.Report.{Report}

@@ -1,6 +1,6 @@
 -- What the parts of feeding go by and what they leave.
-use Rattle.std.specs.Prelude.{◌≡◌, Bool, true, false, List, ℕ, zero, suc, ◌+◌, ◌*◌, ◌%◌, ◌<◌, ◌≤◌, ◌^◌, length, drop, leb, ltb}
-use Rattle.state.specs.Choice.{if◌then◌else◌, ◌is◌}
+use Rattle.std.specs.Prelude.{◌≡◌, Bool, true, false, List, ℕ, zero, suc, ◌+◌, ◌*◌, ◌%◌, ◌<◌, ◌≤◌, ◌^◌, length, drop, leb, ltb, if◌then◌else◌}
+use Rattle.state.specs.Choice.{◌is◌}
 use Rattle.records.specs.declared.session.Progress.{Progress}
 use Rattle.records.specs.declared.session.Session.{Session}
 use Rattle.records.specs.Layout.{Layout, layout, head_size, step_size}

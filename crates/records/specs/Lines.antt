@@ -1,8 +1,7 @@
 -- The virtual lines of an interrupt check in the two layouts (document 02, No. 13): "For Start kind 4 .. lines 8 and 16 of event 9 become
 -- BAD_EVENT. Traces of kind 1 are still judged with both lines". A trace is published, and judged, by the answer and the block after that
 -- its layout has.
-use Rattle.std.specs.Prelude.{◌≡◌, true, List, ℕ, length, take}
-use Rattle.state.specs.Choice.{if◌then◌else◌}
+use Rattle.std.specs.Prelude.{◌≡◌, true, List, ℕ, length, take, if◌then◌else◌}
 use Rattle.state.specs.Number.{DONE, BAD_EVENT}
 use Rattle.state.specs.Place.{OLD_BLOCK_SIZE}
 use Rattle.state.specs.State.{fault}

@@ -1,7 +1,7 @@
 -- A set of modes says what the list of illegal returns says, where it does so at each of the 32 numbers that a saved word can
 -- name, and at each mode that a return can come from.
-use Rattle.std.proofs.Common.{◌≡◌, ℕ, ◌+◌, ◌^◌, ◌<◌, ◌≤◌, Bool, true, false, not, ◌&&◌, refl, arith}
-use Rattle.state.specs.Choice.{if◌then◌else◌, ◌is◌}
+use Rattle.std.proofs.Common.{◌≡◌, ℕ, ◌+◌, ◌^◌, ◌<◌, ◌≤◌, Bool, true, false, not, ◌&&◌, refl, arith, if◌then◌else◌}
+use Rattle.state.specs.Choice.{◌is◌}
 use Rattle.state.specs.Mode.{MONITOR, HYP, targets, is_target}
 use Rattle.state.specs.Parts.{in_set}
 use Rattle.state.proofs.Test.{same, same_eq, every_bit, at_bit, every_below, at_below, every_of, at_one}

@@ -1,7 +1,7 @@
 -- The illegal returns (document 02, No. 9; Arm's manual, chapter G1, "Illegal return events from AArch32 state"), as far as they
 -- can apply where every level uses AArch32: a list of named rows. docs/ILLEGAL-RETURNS.md has the manual's list beside it.
-use Rattle.std.specs.Prelude.{ℕ, Bool, true, false, not, ◌&&◌, List, [], ◌∷◌, nat_lt}
-use Rattle.state.specs.Choice.{if◌then◌else◌, ◌is◌}
+use Rattle.std.specs.Prelude.{ℕ, Bool, true, false, not, ◌&&◌, List, [], ◌∷◌, nat_lt, if◌then◌else◌}
+use Rattle.state.specs.Choice.{◌is◌}
 use Rattle.state.specs.Mode.{HYP, known, el1}
 use Rattle.returns.specs.Level.{level}
 

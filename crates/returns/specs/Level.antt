@@ -1,7 +1,7 @@
 -- The Exception level that a mode stands at (document 02, No. 9; Arm's manual, chapter G1, "Exception levels"): Secure modes but
 -- User stand at EL3, where every level uses AArch32.
-use Rattle.std.specs.Prelude.{ℕ, Bool}
-use Rattle.state.specs.Choice.{if◌then◌else◌, ◌is◌}
+use Rattle.std.specs.Prelude.{ℕ, Bool, if◌then◌else◌}
+use Rattle.state.specs.Choice.{◌is◌}
 use Rattle.state.specs.Mode.{MONITOR, HYP, USER}
 
 abbrev pub EL0 : ℕ

@@ -1,7 +1,7 @@
 -- What the code's own parts ask and answer. Nobody has to believe these: they stand between the code and the rules, and the
 -- laws of proofs/ join them to `illegal`.
-use Rattle.std.specs.Prelude.{◌≡◌, ℕ, ◌+◌, ◌^◌, ◌<◌, Bool, true, false, not, ◌&&◌}
-use Rattle.state.specs.Choice.{if◌then◌else◌, ◌is◌}
+use Rattle.std.specs.Prelude.{◌≡◌, ℕ, ◌+◌, ◌^◌, ◌<◌, Bool, true, false, not, ◌&&◌, if◌then◌else◌}
+use Rattle.state.specs.Choice.{◌is◌}
 use Rattle.state.specs.Field.{mode_field, SCR_NS}
 use Rattle.state.specs.Mode.{HYP, MONITOR, is_target}
 use Rattle.state.specs.Parts.{in_set}

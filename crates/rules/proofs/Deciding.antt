@@ -1,5 +1,6 @@
 -- The code judges the block, then the event, then what the code of the event can still be refused for: on each of these
 -- ways it comes to what the rows of refusals and the rules say.
+use Rattle.std.specs.Prelude.{if◌then◌else◌}
 use mathlib.Core.Path.{◌≡◌, refl, sym, ap, ◌∙◌}
 use mathlib.Core.Bool.{Bool, true, false, not, ◌&&◌, ◌||◌, or-false}
 use mathlib.Core.List.{List}
@@ -10,7 +11,7 @@ use lib.ListN.{length}
 use borrow.Author.Tests.{eqb-true, eqb-false, eq-eqb, leb-false, not-true, not-false}
 use Rattle.words.specs.Word.{word, put}
 use Rattle.words.proofs.Laws.{word-put_same, word-put_other}
-use Rattle.state.specs.Choice.{if◌then◌else◌, ◌is◌, ◌among◌}
+use Rattle.state.specs.Choice.{◌is◌, ◌among◌}
 use Rattle.state.specs.Field.{mode_field}
 use Rattle.state.specs.Mode.{HYP}
 use Rattle.state.specs.Number.{DONE, BAD_SIZE, BAD_STATE, BAD_EVENT, NOT_HERE, NO_REGISTER}

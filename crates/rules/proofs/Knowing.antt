@@ -1,8 +1,8 @@
 -- What an event is to a layout, and to a direct step.
+use Rattle.std.specs.Prelude.{if◌then◌else◌}
 use mathlib.Core.Path.{◌≡◌, refl}
 use mathlib.Core.Bool.{Bool, true, false}
 use Prim.Native.Nat.{ℕ}
-use Rattle.state.specs.Choice.{if◌then◌else◌}
 use Rattle.rules.specs.Known.{NO_CODE}
 use Rattle.rules.specs.declared.event.Event.{Event}
 

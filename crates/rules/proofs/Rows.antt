@@ -1,4 +1,5 @@
 -- Where a step is done no row of refusals applies, and where it has a number no row before that of the number does.
+use Rattle.std.specs.Prelude.{if◌then◌else◌}
 use mathlib.Core.Path.{◌≡◌, refl, ap, ◌∙◌}
 use mathlib.Core.Bool.{Bool, true, false, not, ◌&&◌}
 use mathlib.Core.List.{List, [], ◌∷◌}
@@ -6,7 +7,7 @@ use Prim.Native.Nat.{ℕ}
 use lib.ListN.{length}
 use borrow.Author.Tests.{eqb-false, not-true}
 use Rattle.words.specs.Word.{word}
-use Rattle.state.specs.Choice.{if◌then◌else◌, ◌is◌, ◌among◌}
+use Rattle.state.specs.Choice.{◌is◌, ◌among◌}
 use Rattle.state.specs.Number.{DONE, BAD_SIZE, BAD_MODE, BAD_STATE, BAD_EVENT, NOT_HERE, NO_REGISTER, DISABLED}
 use Rattle.state.specs.Place.{BLOCK_SIZE, NO_PLACE, CPSR, SCR, HCR}
 use Rattle.state.proofs.Test.{and_right, true_is_not_false}

@@ -1,4 +1,5 @@
 -- What a step that no row refuses comes to can be carried out: its places lie in the block, its target has a saved state.
+use Rattle.std.specs.Prelude.{if◌then◌else◌}
 use mathlib.Core.Path.{◌≡◌, refl}
 use mathlib.Core.Bool.{Bool, true, false, not, ◌||◌}
 use mathlib.Core.List.{List}
@@ -7,7 +8,7 @@ use native.Mathlib.Omega.{arith}
 use lib.Dec.{leb, ltb}
 use borrow.Author.Tests.{eqb-true, eqb-false, leb-false, ltb-true}
 use Rattle.words.specs.Word.{word}
-use Rattle.state.specs.Choice.{if◌then◌else◌, ◌is◌}
+use Rattle.state.specs.Choice.{◌is◌}
 use Rattle.state.specs.Mode.{targets, is_target}
 use Rattle.state.specs.Number.{DONE}
 use Rattle.state.proofs.Test.{at_one}

@@ -1,6 +1,6 @@
 -- An event and its operands (document 01, "Events").
-use Rattle.std.specs.Prelude.{Bool, true, false, not, ◌&&◌, ◌||◌, List, [], ◌∷◌, ℕ, leb}
-use Rattle.state.specs.Choice.{if◌then◌else◌, ◌is◌, ◌among◌}
+use Rattle.std.specs.Prelude.{Bool, true, false, not, ◌&&◌, ◌||◌, List, [], ◌∷◌, ℕ, leb, if◌then◌else◌}
+use Rattle.state.specs.Choice.{◌is◌, ◌among◌}
 use Rattle.state.specs.Place.{PLACES}
 use Rattle.entry.specs.Code.{PREFETCH_ABORT, DATA_ABORT}
 pub use Rattle.entry.specs.Code.{INTERRUPT_CHECK, BANKED_READ, BANKED_WRITE, NOTE, RETURN, is_known}

@@ -1,7 +1,7 @@
 -- What a layout of a trace does not know (document 02, Nos. 11 and 13): the machine knows every event, and the layout sees such a one as
 -- an event of no code, which is BAD_EVENT. A direct step, which C, a batch and the recorder make, knows what the new layout does.
-use Rattle.std.specs.Prelude.{◌≡◌, Bool, true, false, ◌&&◌, ◌||◌, ℕ}
-use Rattle.state.specs.Choice.{if◌then◌else◌, ◌is◌}
+use Rattle.std.specs.Prelude.{◌≡◌, Bool, true, false, ◌&&◌, ◌||◌, ℕ, if◌then◌else◌}
+use Rattle.state.specs.Choice.{◌is◌}
 use Rattle.state.specs.Field.{bit}
 use Rattle.state.specs.Place.{HDCR}
 use Rattle.entry.specs.Code.{PREFETCH_ABORT}

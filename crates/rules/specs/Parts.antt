@@ -1,8 +1,8 @@
 -- What the code's own parts ask and answer. Nobody has to believe these: they stand between the code and the rules, and the
 -- laws of proofs/ join them to `action`.
-use Rattle.std.specs.Prelude.{◌≡◌, true, List, ℕ, ◌<◌, ◌^◌, length}
+use Rattle.std.specs.Prelude.{◌≡◌, true, List, ℕ, ◌<◌, ◌^◌, length, if◌then◌else◌}
 use Rattle.words.specs.Word.{word}
-use Rattle.state.specs.Choice.{if◌then◌else◌, ◌is◌}
+use Rattle.state.specs.Choice.{◌is◌}
 use Rattle.state.specs.Mode.{is_target}
 use Rattle.state.specs.Number.{DONE}
 use Rattle.state.specs.Place.{PLACES, BLOCK_SIZE, CPSR, SCR}

@@ -1,7 +1,7 @@
 -- One step: what an event comes to on a block, what is answered, and the block after it.
-use Rattle.std.specs.Prelude.{Bool, true, false, not, ◌&&◌, List, [], ◌∷◌, ◌++◌, ℕ, length}
+use Rattle.std.specs.Prelude.{Bool, true, false, not, ◌&&◌, List, [], ◌∷◌, ◌++◌, ℕ, length, if◌then◌else◌}
 use Rattle.words.specs.Word.{le32, word, put}
-use Rattle.state.specs.Choice.{if◌then◌else◌, ◌is◌}
+use Rattle.state.specs.Choice.{◌is◌}
 use Rattle.state.specs.Field.{without}
 use Rattle.state.specs.Number.{DONE, BAD_SIZE}
 use Rattle.state.specs.Place.{BLOCK_SIZE, CPSR, PC, SCR, HCR, HDCR}

@@ -1,11 +1,12 @@
 -- A block is good by its parts: a known mode, bits 24 to 21 clear, and a mode that stands where NS and TGE let it.
+use Rattle.std.specs.Prelude.{if◌then◌else◌}
 use mathlib.Core.Path.{◌≡◌, refl, sym, ◌∙◌}
 use mathlib.Core.Bool.{Bool, true, false, not, ◌&&◌}
 use mathlib.Core.List.{[], ◌∷◌}
 use Prim.Native.Nat.{ℕ}
 use native.Mathlib.Omega.{arith}
 use borrow.Author.Tests.{eqb-false, not-false}
-use Rattle.state.specs.Choice.{if◌then◌else◌, ◌is◌, first_of}
+use Rattle.state.specs.Choice.{◌is◌, first_of}
 use Rattle.state.specs.Field.{bits, mode_field, SCR_NS, HCR_TGE}
 use Rattle.state.specs.Mode.{known}
 use Rattle.state.specs.Number.{DONE, BAD_MODE, BAD_STATE}

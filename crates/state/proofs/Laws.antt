@@ -1,11 +1,12 @@
 -- Monitor stands apart: it is neither User nor an EL1 mode, so with NS 1 the mode alone tells who is Non-secure.
+use Rattle.std.specs.Prelude.{if◌then◌else◌}
 use mathlib.Core.Path.{◌≡◌, refl, sym}
 use mathlib.Core.Bool.{Bool, true, false, not, ◌&&◌, ◌||◌}
 use Prim.Native.Nat.{ℕ, ◌*◌, ◌^◌, ◌<◌}
 use native.Mathlib.Nat.{one-mul, zero-mul}
 use lib.Dec.{ltb}
 use borrow.Author.Tests.{eqb-true, ltb-true}
-use Rattle.state.specs.Choice.{if◌then◌else◌, ◌is◌}
+use Rattle.state.specs.Choice.{◌is◌}
 use Rattle.state.specs.Field.{flag, mode_field, SCR_NS}
 use Rattle.state.specs.Mode.{MONITOR, USER, el1, guest, targets, is_target, spsr_place, lr_place}
 use Rattle.state.specs.Place.{PLACES}

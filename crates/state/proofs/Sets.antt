@@ -1,4 +1,5 @@
 -- A set of modes as a word, bit n for the mode of number n, says what the list of those modes says.
+use Rattle.std.specs.Prelude.{if◌then◌else◌}
 use mathlib.Core.Path.{◌≡◌, refl}
 use mathlib.Core.Bool.{Bool, true, false, ◌||◌}
 use mathlib.Core.List.{List, [], ◌∷◌, ◌++◌}
@@ -6,7 +7,7 @@ use Prim.Native.Nat.{ℕ, ◌<◌, ◌≤◌}
 use native.Mathlib.Omega.{arith}
 use lib.Dec.{eqb, ltb}
 use borrow.Author.Tests.{ne_eqb, ltb-true}
-use Rattle.state.specs.Choice.{if◌then◌else◌, ◌among◌}
+use Rattle.state.specs.Choice.{◌among◌}
 pub use Rattle.state.specs.Parts.{in_set}
 use Rattle.state.proofs.Test.{same, same_eq, every_below, at_below, every_of, and_left, and_right}
 

@@ -1,12 +1,6 @@
 -- How the rules choose: by a test, or by the first row of a list that applies.
-use Rattle.std.specs.Prelude.{Bool, true, false, List, [], ◌∷◌, ℕ, eqb}
+use Rattle.std.specs.Prelude.{Bool, true, false, List, [], ◌∷◌, ℕ, eqb, if◌then◌else◌}
 
--- where the test holds the first, else the second
-abbrev pub if◌then◌else◌ : {A : Type 0} → Bool → A → A → A
-if◌then◌else◌ true x y = x
-if◌then◌else◌ false x y = y
-
-infixr 10 if◌then◌else◌
 -- is the one number the other?
 abbrev pub ◌is◌ : ℕ → ℕ → Bool
 ◌is◌ x y = eqb x y

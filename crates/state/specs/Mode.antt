@@ -1,6 +1,6 @@
 -- The nine modes (document 01, "The state block"), by number, and where each keeps its return address and its saved state.
-use Rattle.std.specs.Prelude.{Bool, List, [], ◌∷◌, ℕ}
-use Rattle.state.specs.Choice.{if◌then◌else◌, ◌is◌, ◌among◌}
+use Rattle.std.specs.Prelude.{Bool, List, [], ◌∷◌, ℕ, if◌then◌else◌}
+use Rattle.state.specs.Choice.{◌is◌, ◌among◌}
 use Rattle.state.specs.Place.{NO_PLACE, LR_usr, LR_fiq, LR_irq, LR_svc, LR_abt, LR_und, LR_mon, ELR_hyp, SPSR_fiq}
 use Rattle.state.specs.Place.{SPSR_irq, SPSR_svc, SPSR_abt, SPSR_und, SPSR_mon, SPSR_hyp}
 

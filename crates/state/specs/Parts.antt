@@ -1,8 +1,8 @@
 -- What the code's own parts answer. Nobody has to believe these: they stand between the code and the rules, and the
 -- laws of proofs/ join them to `fault_of`.
-use Rattle.std.specs.Prelude.{◌≡◌, Bool, not, ◌&&◌, ◌||◌, ℕ, ◌/◌, ◌^◌, ◌<◌, eqb}
+use Rattle.std.specs.Prelude.{◌≡◌, Bool, not, ◌&&◌, ◌||◌, ℕ, ◌/◌, ◌^◌, ◌<◌, eqb, if◌then◌else◌}
 use Rattle.std.specs.Int.Bits.{bit_and}
-use Rattle.state.specs.Choice.{if◌then◌else◌, ◌is◌}
+use Rattle.state.specs.Choice.{◌is◌}
 use Rattle.state.specs.Field.{mode_field}
 use Rattle.state.specs.Mode.{MONITOR, HYP, known, el1}
 use Rattle.state.specs.Number.{BAD_MODE, BAD_STATE}

@@ -1,10 +1,10 @@
 -- By the two tests.
+use Rattle.std.specs.Prelude.{if◌then◌else◌}
 use mathlib.Core.Path.{◌≡◌, refl, sym, ◌∙◌}
 use mathlib.Core.Bool.{Bool, ◌&&◌}
 use lib.Dec.{ltb}
 use borrow.Author.Rules.{rules}
 use borrow.Author.Tests.{lt-ltb, le-ltb}
-use Rattle.state.specs.Choice.{if◌then◌else◌}
 use Rattle.instruction.specs.Instruction.{Parts, in_range, no_parts}
 use Rattle.instruction.proofs.within.Statement.{statement}
 use Rattle.instruction.proofs.within.Tie as tie

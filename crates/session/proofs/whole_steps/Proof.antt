@@ -1,6 +1,5 @@
 -- The least of three numbers is none of them at least.
-use Rattle.std.proofs.Common.{ℕ, ◌+◌, ◌-◌, ◌*◌, ◌/◌, ◌<◌, ◌≤◌, Bool, true, false, leb, ap, ◌∙◌, arith, rules}
-use Rattle.state.specs.Choice.{if◌then◌else◌}
+use Rattle.std.proofs.Common.{ℕ, ◌+◌, ◌-◌, ◌*◌, ◌/◌, ◌<◌, ◌≤◌, Bool, true, false, leb, ap, ◌∙◌, arith, rules, if◌then◌else◌}
 use Rattle.records.specs.Layout.{layout, step_size, most_steps}
 use Rattle.records.proofs.Feeding.{least_of}
 use Rattle.session.proofs.whole_steps.Statement.{statement}

@@ -1,5 +1,6 @@
 -- The set of unallocated cells says whether there is a register, that of the mode's own whether it is one of them, and past the 64
 -- cells there is none.
+use Rattle.std.specs.Prelude.{if◌then◌else◌}
 use mathlib.Core.Path.{◌≡◌, refl, sym, ◌∙◌}
 use mathlib.Core.Bool.{Bool, true, false, not, ◌&&◌}
 use Prim.Native.Nat.{ℕ}
@@ -11,7 +12,7 @@ use Rattle.banked.proofs.right.denial_of.Statement.{statement}
 use Rattle.banked.proofs.right.denial_of.Tie as tie
 use Rattle.banked.specs.Cell.{cell}
 use Rattle.banked.specs.Right.{own, reason}
-use Rattle.state.specs.Choice.{if◌then◌else◌, ◌is◌}
+use Rattle.state.specs.Choice.{◌is◌}
 use Rattle.state.specs.Field.{mode_field}
 use Rattle.state.specs.Mode.{USER}
 use Rattle.state.specs.Number.{NO_REGISTER, NO_RIGHT, OWN_REGISTER}

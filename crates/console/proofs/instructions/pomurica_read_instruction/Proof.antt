@@ -1,9 +1,10 @@
 -- A buffer of another size is refused at once; one of sixteen bytes takes the parts.
+use Rattle.std.specs.Prelude.{if◌then◌else◌}
 use mathlib.Core.Path.{◌≡◌, ap, sym, ◌∙◌}
 use lib.ListN.{length}
 use borrow.Author.Rules.{rules}
 use borrow.Author.Tests.{eq-eqb, ne_eqb}
-use Rattle.state.specs.Choice.{if◌then◌else◌, ◌is◌}
+use Rattle.state.specs.Choice.{◌is◌}
 use Rattle.state.specs.Number.{DONE, NOT_BANKED}
 use Rattle.instruction.specs.declared.Parts.{Parts}
 use Rattle.instruction.proofs.Theorems.{number_by_code}

@@ -1,10 +1,10 @@
 -- The four bumps are those of the Step that the bytes show.
+use Rattle.std.specs.Prelude.{if◌then◌else◌}
 use mathlib.Core.Path.{◌≡◌, ap, ◌∙◌}
 use mathlib.Core.List.{List}
 use Prim.Native.Nat.{ℕ}
 use native.Mathlib.Omega.{arith}
 use borrow.Author.Rules.{rules}
-use Rattle.state.specs.Choice.{if◌then◌else◌}
 use Rattle.entry.specs.Code.{is_known}
 use Rattle.counts.specs.Counts.{Step}
 use Rattle.counts.specs.Parts.{Tally, shown_step, step_of, target_number, taken_number, bumped}

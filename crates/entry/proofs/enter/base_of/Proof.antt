@@ -1,11 +1,10 @@
 -- The word that the definition chooses, by the same tests.
-use Rattle.std.proofs.Common.{◌≡◌, ℕ, Bool, true, false, List, refl, ap, ◌∙◌, rules}
+use Rattle.std.proofs.Common.{◌≡◌, ℕ, Bool, true, false, List, refl, ap, ◌∙◌, rules, if◌then◌else◌}
 use Rattle.entry.proofs.enter.base_of.Statement.{statement}
 use Rattle.entry.proofs.enter.base_of.Tie as tie
 use Rattle.entry.specs.Enter.{vector_base}
 use Rattle.entry.specs.Parts.{own_place}
 use Rattle.state.proofs.Test.{told}
-use Rattle.state.specs.Choice.{if◌then◌else◌}
 use Rattle.state.specs.Field.{SCR_NS}
 use Rattle.state.specs.Place.{SCR, VBAR_s, VBAR_ns}
 use Rattle.words.specs.Word.{word}

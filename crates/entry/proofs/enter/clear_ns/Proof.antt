@@ -1,10 +1,10 @@
 -- From Monitor to another mode than Hyp the word is put with bit 0 clear, else nothing is.
-use Rattle.std.proofs.Common.{◌≡◌, ℕ, ◌*◌, ◌/◌, Bool, true, false, ◌&&◌, List, sym, refl, ap, ◌∙◌, arith, rules}
+use Rattle.std.proofs.Common.{◌≡◌, ℕ, ◌*◌, ◌/◌, Bool, true, false, ◌&&◌, List, sym, refl, ap, ◌∙◌, arith, rules, if◌then◌else◌}
 use Rattle.entry.proofs.enter.clear_ns.Statement.{statement}
 use Rattle.entry.proofs.enter.clear_ns.Tie as tie
 use Rattle.entry.specs.Enter.{ns_cleared}
 use Rattle.state.proofs.Test.{told}
-use Rattle.state.specs.Choice.{if◌then◌else◌, ◌is◌}
+use Rattle.state.specs.Choice.{◌is◌}
 use Rattle.state.specs.Field.{mode_field, without}
 use Rattle.state.specs.Mode.{HYP, MONITOR}
 use Rattle.state.specs.Place.{CPSR, SCR}

@@ -1,10 +1,9 @@
 -- NS is the lowest bit of SCR, so it is what the place has added.
-use Rattle.std.proofs.Common.{◌≡◌, ℕ, ◌+◌, ◌/◌, ◌%◌, Bool, true, false, refl, arith, rules, eqb-true}
+use Rattle.std.proofs.Common.{◌≡◌, ℕ, ◌+◌, ◌/◌, ◌%◌, Bool, true, false, refl, arith, rules, eqb-true, if◌then◌else◌}
 use borrow.Author.Tests.{eqb-false}
 use Rattle.entry.proofs.enter.own_place.Statement.{statement}
 use Rattle.entry.proofs.enter.own_place.Tie as tie
 use Rattle.entry.specs.Parts.{own_place}
-use Rattle.state.specs.Choice.{if◌then◌else◌}
 use Rattle.state.specs.Field.{SCR_NS}
 
 own : (secure scr : ℕ) → secure + scr % 2 ≡ own_place secure scr

@@ -1,10 +1,10 @@
 -- From Hyp its own, from another mode the one for all.
-use Rattle.std.proofs.Common.{◌≡◌, ℕ, Bool, true, false, sym, ◌∙◌, rules}
+use Rattle.std.proofs.Common.{◌≡◌, ℕ, Bool, true, false, sym, ◌∙◌, rules, if◌then◌else◌}
 use Rattle.entry.proofs.route.hyp_offset.Statement.{statement}
 use Rattle.entry.proofs.route.hyp_offset.Tie as tie
 use Rattle.entry.specs.Offset.{HYP_TRAP}
 use Rattle.entry.specs.Route.{offset_to}
-use Rattle.state.specs.Choice.{if◌then◌else◌, ◌is◌}
+use Rattle.state.specs.Choice.{◌is◌}
 use Rattle.state.specs.Field.{mode_field}
 use Rattle.state.specs.Mode.{HYP}
 

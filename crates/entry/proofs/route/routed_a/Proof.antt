@@ -1,10 +1,9 @@
 -- The four tests one behind the other, each of which can leave A as it is.
-use Rattle.std.proofs.Common.{◌≡◌, ℕ, Bool, true, ◌&&◌, refl, rules}
+use Rattle.std.proofs.Common.{◌≡◌, ℕ, Bool, true, ◌&&◌, refl, rules, if◌then◌else◌}
 use Rattle.entry.proofs.route.routed_a.Statement.{statement}
 use Rattle.entry.proofs.route.routed_a.Tie as tie
 use Rattle.entry.specs.Code.{PREFETCH_ABORT, STAGE_2, debug}
 use Rattle.entry.specs.Route.{routed_a}
-use Rattle.state.specs.Choice.{if◌then◌else◌}
 use Rattle.state.specs.Field.{mode_field, SCR_NS, HDCR_TDE}
 use Rattle.state.specs.Mode.{guest}
 use Rattle.state.proofs.Laws.{in_guest}

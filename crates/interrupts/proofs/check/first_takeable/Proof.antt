@@ -1,8 +1,8 @@
 -- Each way through the tests is one of the ways through the order.
+use Rattle.std.specs.Prelude.{if◌then◌else◌}
 use mathlib.Core.Bool.{Bool, true}
 use mathlib.Core.Path.{◌≡◌}
 use Rattle.state.proofs.Test.{told, told_not, told_still}
-use Rattle.state.specs.Choice.{if◌then◌else◌}
 use Rattle.interrupts.proofs.Laws.{NonePhysical, first_serror, first_fiq, first_irq, nothing_virtual}
 use Rattle.interrupts.proofs.Laws.{first_virtual_serror, first_virtual_fiq, first_virtual_irq}
 use Rattle.interrupts.proofs.check.first_takeable.Statement.{statement}
