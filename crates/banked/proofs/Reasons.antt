@@ -1,7 +1,7 @@
 -- No. 10 of document 02: the accesses that were NO_RIGHT are now NO_RIGHT or OWN_REGISTER and no others, and OWN_REGISTER is given
 -- exactly on the list of current mode registers. What hangs on register, mode and state is tried at each of them.
 use Rattle.std.specs.Prelude.{if◌then◌else◌}
-use mathlib.Core.Path.{◌≡◌, refl, sym, ap, ◌∙◌}
+use mathlib.Core.Path.{◌≡◌, refl, sym, ◌∙◌}
 use mathlib.Core.Bool.{Bool, true, false, not, ◌&&◌, ◌||◌}
 use mathlib.Core.Logic.{◌⊎◌, inl, inr, ◌↔◌}
 use Prim.Native.Nat.{ℕ, ◌<◌}

@@ -1,7 +1,7 @@
 -- What No. 10 of document 02 split, and how: the right that an access had before it, kept to say what the request changed, and the
 -- registers that are "not accessible from the current state". No other definition, no contract and no code goes by these.
-use Rattle.std.specs.Prelude.{Bool, not, ◌&&◌, ◌||◌, List, [], ◌∷◌, ℕ, if◌then◌else◌}
-use Rattle.state.specs.Choice.{◌is◌, ◌among◌}
+use Rattle.std.specs.Prelude.{Bool, not, ◌&&◌, ◌||◌, [], ◌∷◌, ℕ, if◌then◌else◌}
+use Rattle.state.specs.Choice.{◌among◌}
 use Rattle.state.specs.Field.{mode_field}
 use Rattle.state.specs.Mode.{MONITOR, HYP}
 use Rattle.state.specs.Number.{DONE, NO_RIGHT}

@@ -1,6 +1,6 @@
 -- Who may reach a banked register, and why not (document 01, "Banked-register rights"; document 02, No. 10; Arm's source 004,
 -- sections F5.2.1 and F5.2.2).
-use Rattle.std.specs.Prelude.{Bool, true, false, not, ◌&&◌, ◌||◌, List, [], ◌∷◌, ◌++◌, ℕ, if◌then◌else◌}
+use Rattle.std.specs.Prelude.{Bool, not, ◌&&◌, ◌||◌, List, [], ◌∷◌, ◌++◌, ℕ, if◌then◌else◌}
 use Rattle.state.specs.Choice.{◌is◌, ◌among◌}
 use Rattle.state.specs.Field.{mode_field}
 use Rattle.state.specs.Mode.{USER, FIQ, IRQ, SUPERVISOR, MONITOR, ABORT, HYP, UNDEFINED, SYSTEM}

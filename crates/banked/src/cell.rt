@@ -100,6 +100,7 @@ pub fn cell_in_table(a: u32) -> usize
 }
 
 // Eight cells as a word, the first in its lowest byte, each by the number of its place; 0xFF is NO_PLACE.
+#[tactic(auto, unfolding(crate::specs::Parts::eight_from))]
 fn eight_from(a: u32) -> u64
     ensures { result ≡ eight_from a }
 {

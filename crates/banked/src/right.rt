@@ -67,6 +67,7 @@ const UNDEFINED: u32 = Mode::UNDEFINED.number - 16;
 const SYSTEM: u32 = Mode::SYSTEM.number - 16;
 
 // The cells that a mode cannot reach in Secure state, or that name no register. The compiler makes a table of it.
+#[tactic(auto, unfolding(crate::specs::Parts::denied_to))]
 fn denied_to(mode: u32) -> u64
     ensures { result ≡ denied_to mode }
 {
@@ -105,6 +106,7 @@ pub fn is_denied(a: u32, cpsr: u32, scr: u32) -> bool
 }
 
 // The cells of its own registers, which a mode reaches by another instruction; none is told of User, which has no right at all.
+#[tactic(auto, unfolding(crate::specs::Parts::own_to))]
 fn own_to(mode: u32) -> u64
     ensures { result ≡ own_to mode }
 {

@@ -4,21 +4,22 @@
 #![tactic(auto)]
 
 use interrupts::decision::{INDEXES, decision};
-use libc::STDOUT_FILENO;
+use std::io;
 
 // The digit of an entry.
 fn digit(index: u32) -> u8 {
     (48 + decision(index) % 10) as u8
 }
 
-fn main() {
+fn main(rt: HostRuntime) -> io::Result<()> {
     let mut index = 0;
     while index < INDEXES {
         let text = [digit(index)];
-        io::write_all(STDOUT_FILENO, &text);
+        rt.write_all(&text)?;
         index += 1;
         if index % 16 == 0 {
-            io::write_all(STDOUT_FILENO, b"\n");
+            rt.write_all(b"\n")?;
         }
     }
+    Ok(())
 }

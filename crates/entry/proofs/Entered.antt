@@ -3,8 +3,7 @@ use Rattle.std.proofs.Common.{◌≡◌, ℕ, ◌+◌, ◌*◌, ◌/◌, ◌%◌
 use borrow.Author.Tests.{eqb-false, not-true}
 use Rattle.words.specs.Word.{word, put}
 use Rattle.words.proofs.Laws.{length-put, word-put_same, word-put_other}
-use Rattle.state.specs.Choice.{◌is◌}
-use Rattle.state.specs.Field.{bit, bits, flag, mode_field, CPSR_A, CPSR_I, CPSR_F, SCTLR_EE, SCTLR_TE}
+use Rattle.state.specs.Field.{bits, flag, mode_field, CPSR_A, CPSR_I, CPSR_F, SCTLR_EE, SCTLR_TE}
 use Rattle.state.specs.Mode.{targets, is_target, spsr_place, lr_place}
 use Rattle.state.specs.Place.{BLOCK_SIZE, CPSR, PC, SCR}
 use Rattle.state.proofs.Laws.{flag_moved}

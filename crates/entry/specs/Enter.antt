@@ -1,5 +1,5 @@
 -- What an entry writes (document 01, "Entry"; Arm's source 000, the entry pseudocode of each mode).
-use Rattle.std.specs.Prelude.{ℕ, ◌+◌, Bool, true, false, not, ◌&&◌, ◌||◌, List, [], ◌∷◌, if◌then◌else◌}
+use Rattle.std.specs.Prelude.{ℕ, ◌+◌, Bool, not, ◌&&◌, ◌||◌, List, [], ◌∷◌, if◌then◌else◌}
 use Rattle.words.specs.Word.{word, put}
 use Rattle.state.specs.Choice.{◌is◌, ◌among◌}
 use Rattle.state.specs.Field.{bits, flag, without, mode_field, CPSR_A, CPSR_I, CPSR_F, SCR_NS, SCR_IRQ, SCR_FIQ, SCR_EA}

@@ -1,6 +1,6 @@
 -- What the code's own parts answer. Nobody has to believe these: they stand between the code and the rules, and the laws
 -- of proofs/ join them to `way` and `entered`.
-use Rattle.std.specs.Prelude.{ℕ, ◌+◌, ◌*◌, Bool, ◌&&◌, ◌||◌, if◌then◌else◌}
+use Rattle.std.specs.Prelude.{ℕ, ◌+◌, Bool, ◌&&◌, ◌||◌, if◌then◌else◌}
 use Rattle.state.specs.Choice.{◌is◌}
 use Rattle.state.specs.Field.{flag, mode_field, CPSR_T, SCR_NS, SCR_EA, HCR_TGE}
 use Rattle.state.specs.Mode.{HYP, MONITOR, ABORT}

@@ -1,6 +1,6 @@
 -- Where a synchronous event goes, at which offset, and with which return address (document 01, "Routing"; Arm's source
 -- 000 for the offsets and the preferred returns, source 003 for the routing).
-use Rattle.std.specs.Prelude.{ℕ, ◌+◌, ◌%◌, ◌^◌, Bool, true, false, not, ◌&&◌, ◌||◌, List, [], ◌∷◌, if◌then◌else◌}
+use Rattle.std.specs.Prelude.{ℕ, ◌+◌, ◌%◌, ◌^◌, Bool, not, ◌&&◌, ◌||◌, [], ◌∷◌, if◌then◌else◌}
 use Rattle.state.specs.Choice.{◌is◌, ◌among◌}
 use Rattle.state.specs.Field.{mode_field, CPSR_T, SCR_EA, SCR_SCD, SCR_HCE, HCR_TSC, HCR_TGE, HDCR_TDE}
 use Rattle.state.specs.Mode.{USER, SUPERVISOR, MONITOR, ABORT, HYP, UNDEFINED}

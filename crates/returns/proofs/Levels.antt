@@ -1,8 +1,8 @@
 -- A return is at EL3 with NS 0: every Secure mode that has a saved state stands there.
-use Rattle.std.proofs.Common.{◌≡◌, ℕ, Bool, true, false, not, ◌&&◌, refl, eqb-true, if◌then◌else◌}
+use Rattle.std.proofs.Common.{◌≡◌, ℕ, Bool, true, false, ◌&&◌, refl, eqb-true, if◌then◌else◌}
 use Rattle.state.specs.Choice.{◌is◌}
 use Rattle.state.specs.Mode.{HYP, targets, is_target}
-use Rattle.state.proofs.Test.{at_one, implies, implied}
+use Rattle.state.proofs.Test.{at_one}
 use Rattle.returns.specs.Level.{EL3, level}
 
 abbrev stands_at : ℕ → Bool

@@ -1,6 +1,6 @@
 -- A set of modes says what the list of illegal returns says, where it does so at each of the 32 numbers that a saved word can
 -- name, and at each mode that a return can come from.
-use Rattle.std.proofs.Common.{◌≡◌, ℕ, ◌+◌, ◌^◌, ◌<◌, ◌≤◌, Bool, true, false, not, ◌&&◌, refl, arith, if◌then◌else◌}
+use Rattle.std.proofs.Common.{◌≡◌, ℕ, ◌+◌, ◌^◌, ◌≤◌, Bool, true, false, not, ◌&&◌, arith, if◌then◌else◌}
 use Rattle.state.specs.Choice.{◌is◌}
 use Rattle.state.specs.Mode.{MONITOR, HYP, targets, is_target}
 use Rattle.state.specs.Parts.{in_set}

@@ -1,5 +1,5 @@
 -- The exception return (document 02, No. 9): what it asks of its operand and of the saved word, and the words that it writes.
-use Rattle.std.specs.Prelude.{ℕ, ◌+◌, ◌-◌, ◌%◌, ◌^◌, Bool, true, not, ◌&&◌, List, [], ◌∷◌, if◌then◌else◌}
+use Rattle.std.specs.Prelude.{ℕ, ◌+◌, ◌-◌, ◌%◌, ◌^◌, Bool, true, not, List, [], ◌∷◌, if◌then◌else◌}
 use Rattle.words.specs.Word.{word}
 use Rattle.state.specs.Choice.{◌is◌, ◌among◌}
 use Rattle.state.specs.Field.{bits, flag, mode_field, CPSR_T, SCR_NS, HCR_TGE}

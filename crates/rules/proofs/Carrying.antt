@@ -12,7 +12,7 @@ use Rattle.interrupts.specs.declared.exception.Exception.{Exception}
 use Rattle.interrupts.specs.declared.exception.Exception.TheVariants.{Synchronous, SError, Fiq, Irq}
 use Rattle.interrupts.specs.declared.exception.Exception.TheVariants.{VirtualSError, VirtualFiq, VirtualIrq}
 use Rattle.rules.specs.Parts.{Told, Carried}
-use Rattle.rules.specs.Step.{Action, Refuse, Take, va_cleared, action}
+use Rattle.rules.specs.Step.{Action, Refuse, Take, va_cleared}
 use Rattle.rules.specs.Verdict.{entry_to, answer_for, refused_with}
 
 -- clearing VA leaves the block, or puts one word

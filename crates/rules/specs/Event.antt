@@ -1,5 +1,5 @@
 -- An event and its operands (document 01, "Events").
-use Rattle.std.specs.Prelude.{Bool, true, false, not, ◌&&◌, ◌||◌, List, [], ◌∷◌, ℕ, leb, if◌then◌else◌}
+use Rattle.std.specs.Prelude.{Bool, not, ◌&&◌, ◌||◌, [], ◌∷◌, ℕ, leb, if◌then◌else◌}
 use Rattle.state.specs.Choice.{◌is◌, ◌among◌}
 use Rattle.state.specs.Place.{PLACES}
 use Rattle.entry.specs.Code.{PREFETCH_ABORT, DATA_ABORT}

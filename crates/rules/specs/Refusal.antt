@@ -1,7 +1,7 @@
 -- The refusals, in the order of their numbers, but for DISABLED, which goes behind NOT_HERE (document 02, No. 8), and for a note
 -- again the second and the third: the first row that applies wins (document 01, "Answer numbers"). A return has a row of its own
 -- behind the third, the fourth and the fifth (document 02, No. 9).
-use Rattle.std.specs.Prelude.{Bool, true, false, not, ◌&&◌, ◌||◌, List, [], ◌∷◌, ℕ, length}
+use Rattle.std.specs.Prelude.{Bool, not, ◌&&◌, List, [], ◌∷◌, ℕ, length}
 use Rattle.words.specs.Word.{word, put}
 use Rattle.state.specs.Choice.{◌is◌, Row, first_of}
 use Rattle.state.specs.Field.{mode_field}

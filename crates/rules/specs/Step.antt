@@ -1,5 +1,5 @@
 -- One step: what an event comes to on a block, what is answered, and the block after it.
-use Rattle.std.specs.Prelude.{Bool, true, false, not, ◌&&◌, List, [], ◌∷◌, ◌++◌, ℕ, length, if◌then◌else◌}
+use Rattle.std.specs.Prelude.{Bool, ◌&&◌, List, ◌++◌, ℕ, length, if◌then◌else◌}
 use Rattle.words.specs.Word.{le32, word, put}
 use Rattle.state.specs.Choice.{◌is◌}
 use Rattle.state.specs.Field.{without}
