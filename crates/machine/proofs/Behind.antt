@@ -1,12 +1,12 @@
 -- An event that the old layout knows touches no byte behind the old block: every word that it writes lies before HDCR.
 use Rattle.std.specs.Prelude.{if◌then◌else◌}
-use mathlib.Core.Path.{◌≡◌, refl, sym, ap, ◌∙◌}
+use mathlib.Core.Path.{◌≡◌, refl, ◌∙◌}
 use mathlib.Core.Bool.{Bool, true, false, not, ◌&&◌, ◌||◌}
 use mathlib.Core.List.{List}
-use Prim.Native.Nat.{ℕ, ◌*◌, ◌+◌, ◌<◌, ◌≤◌}
+use Prim.Native.Nat.{ℕ, ◌<◌}
 use native.Mathlib.Omega.{arith}
-use borrow.Author.Tests.{eqb-true, eqb-false, eq-eqb}
-use lib.ListN.{length, drop}
+use borrow.Author.Tests.{eqb-true, eqb-false}
+use lib.ListN.{drop}
 use Rattle.words.specs.Word.{word, put}
 use Rattle.words.proofs.Laws.{drop-put}
 use Rattle.state.specs.Choice.{◌is◌}
@@ -22,7 +22,6 @@ use Rattle.entry.proofs.Entered.{spsr_low, lr_low}
 use Rattle.interrupts.specs.declared.check.Found.{Found}
 use Rattle.interrupts.specs.declared.exception.Exception.{Exception}
 use Rattle.interrupts.proofs.Laws.{found_cases}
-use Rattle.banked.specs.Cell.{cell}
 use Rattle.rules.specs.Event.{NOTE}
 use Rattle.rules.specs.Known.{DEBUG, unknown_to_old}
 use Rattle.rules.specs.Parts.{Sound}

@@ -1,8 +1,7 @@
 -- A debug abort that TDE traps is routed as one of stage 2 (entry's routed_a), which from there goes to Hyp; any other by its own A, of
 -- which neither bit that routing asks for is set, as none of A 0 is.
-use Rattle.std.specs.Prelude.{if◌then◌else◌}
-use mathlib.Core.Path.{◌≡◌, refl, sym, ap, ◌∙◌}
-use mathlib.Core.Bool.{Bool, true, false, not, ◌&&◌, ◌||◌}
+use mathlib.Core.Path.{◌≡◌, refl, ap, ◌∙◌}
+use mathlib.Core.Bool.{Bool, true, false, ◌||◌}
 use mathlib.Core.List.{List}
 use Prim.Native.Nat.{ℕ}
 use lib.ListN.{length}
@@ -13,7 +12,7 @@ use Rattle.state.specs.Field.{mode_field, HDCR_TDE}
 use Rattle.state.specs.Mode.{HYP, known}
 use Rattle.state.specs.Number.{DONE}
 use Rattle.state.specs.Place.{BLOCK_SIZE, CPSR, SCR, HCR, HDCR}
-use Rattle.state.specs.State.{secure, ns_user, ns_el1, fault}
+use Rattle.state.specs.State.{secure, fault}
 use Rattle.state.proofs.Test.{and_left, true_is_not_false}
 use Rattle.entry.specs.Code.{PREFETCH_ABORT, STAGE_2}
 use Rattle.entry.specs.Route.{not_here, disabled, to_monitor, to_hyp}

@@ -7,29 +7,26 @@ use mathlib.Core.List.{List, [], ◌∷◌}
 use mathlib.Core.Logic.{◌⊎◌, inl, inr, ◌↔◌}
 use Prim.Native.Nat.{ℕ}
 use lib.ListN.{length}
-use borrow.Author.Tests.{eqb-true, eqb-false, eq-eqb, not-true, not-false}
+use borrow.Author.Tests.{eqb-true, eq-eqb, not-true, not-false}
 use Rattle.words.specs.Word.{word}
 use Rattle.state.specs.Choice.{◌is◌, ◌among◌}
 use Rattle.state.specs.Field.{mode_field}
 use Rattle.state.specs.Mode.{USER}
 use Rattle.state.specs.Number.{DONE, BAD_MODE, BAD_STATE, NO_RIGHT, OWN_REGISTER}
-use Rattle.state.specs.Place.{BLOCK_SIZE, NO_PLACE, CPSR, SCR}
-use Rattle.state.specs.State.{secure, fault}
+use Rattle.state.specs.Place.{BLOCK_SIZE, CPSR, SCR}
 use Rattle.state.proofs.Test.{true_is_not_false, at_one}
 use Rattle.entry.specs.Code.{is_synchronous}
 use Rattle.banked.specs.Cell.{cell}
 use Rattle.banked.specs.Claims.{right_formerly}
-use Rattle.banked.specs.Right.{denied, own, right}
+use Rattle.banked.specs.Right.{own, right}
 use Rattle.banked.proofs.Reasons as reasons
-use Rattle.rules.specs.Event.{BANKED_READ, BANKED_WRITE, NOTE, RETURN, is_banked, bad_event}
+use Rattle.rules.specs.Event.{BANKED_READ, BANKED_WRITE, NOTE, RETURN, is_banked}
 use Rattle.rules.specs.Refusal.{unknown_mode, not_good, noted, refusal}
-use Rattle.rules.specs.Step.{answer}
 use Rattle.rules.specs.declared.event.Event.{Event}
 use Rattle.rules.proofs.Deciding.{fault_clear, unlike}
 use Rattle.rules.proofs.Rows.{earlier, past, reached}
 use Rattle.machine.specs.Claims.{Accesses}
 use Rattle.machine.proofs.Goodness.{clear_fault}
-use Rattle.machine.proofs.Laws.{number_is}
 
 module _ (b : List ℕ) (e : Event) where
   -- the right to the register that the event names

@@ -7,7 +7,6 @@ use Prim.Native.Nat.{ℕ}
 use lib.ListN.{length}
 use borrow.Author.Tests.{eq-eqb, ne_eqb, not-false}
 use Rattle.words.specs.Word.{word, put}
-use Rattle.state.specs.Choice.{◌is◌}
 use Rattle.state.specs.Field.{SCR_SCD, SCR_HCE}
 use Rattle.state.specs.Number.{DONE}
 use Rattle.state.specs.Place.{BLOCK_SIZE, CPSR, SCR, HCR, HDCR}

@@ -11,12 +11,13 @@ use Rattle.state.specs.Choice.{◌is◌}
 use Rattle.state.specs.Number.{BAD_SIZE}
 use Rattle.state.specs.Place.{BLOCK_SIZE}
 use Rattle.rules.specs.declared.event.Event.{Event}
-use Rattle.rules.specs.Step.{ANSWER_SIZE, answer, after, number_returned, block_left, answer_left}
+use Rattle.rules.specs.Parts.{Carried}
+use Rattle.rules.specs.Step.{ANSWER_SIZE, action, answer, after, number_returned, block_left, answer_left}
 use Rattle.rules.specs.Verdict.{refused_with}
 use Rattle.rules.specs.declared.verdict.Answer.{Answer}
 use Rattle.rules.proofs.Buffer.{first_word, second_word}
 use Rattle.machine.proofs.Laws.{number_fits}
-use Rattle.machine.proofs.Stepping.{Performed, Stepped, wrong_size}
+use Rattle.machine.proofs.Stepping.{Performed, Stepped, wrong_size, performed, right_sizes}
 
 -- an answer by its two words
 abbrev pub answer_in : ℕ → ℕ → Answer
@@ -39,6 +40,13 @@ module _ (b : List ℕ) (e : Event) where
 
     pub replayed : {l m : List ℕ} {n : ℕ} → Stepped b e buffer n l m → Fits → Replayed n l m
     replayed p f = (p.0, (p.1.0, (p.1.1, f)))
+
+    -- what is carried out on buffers of the right sizes is the step
+    pub replayed_there : {l m : List ℕ} {n : ℕ} → length b ≡ BLOCK_SIZE → length buffer ≡ ANSWER_SIZE
+        → Carried b (action b e) n l m → Replayed n l m
+    replayed_there s z h =
+        let p = performed b e h in
+        replayed (right_sizes b e buffer s z p) (λ s z. p.1.1.1)
 
     -- both sizes are right: the step is carried out
     pub carried : {l m : List ℕ} {n : ℕ} → Replayed n l m → length b ≡ BLOCK_SIZE → length buffer ≡ ANSWER_SIZE

@@ -2,18 +2,18 @@
 -- the return looks for them, and the mode that was left may be returned to.
 use Rattle.std.specs.Prelude.{if◌then◌else◌}
 use mathlib.Core.Path.{◌≡◌, refl, sym, ap, ◌∙◌}
-use mathlib.Core.Bool.{Bool, true, false, not, ◌&&◌, ◌||◌}
+use mathlib.Core.Bool.{Bool, true, false, not, ◌&&◌}
 use mathlib.Core.List.{List, [], ◌∷◌}
 use mathlib.Core.Logic.{◌↔◌}
 use Prim.Native.Nat.{ℕ, ◌*◌, ◌<◌, ◌≤◌, ◌^◌}
 use native.Mathlib.Omega.{arith}
-use borrow.Author.Tests.{eqb-true, eqb-false, eq-eqb, not-true, not-false}
+use borrow.Author.Tests.{eqb-true, eqb-false, not-true, not-false}
 use lib.Dec.{lit<}
 use lib.ListN.{length}
 use Rattle.words.specs.Word.{word, put, Bytes}
 use Rattle.words.proofs.Laws.{length-put, word-put_same, word-put_other, spelt_fits}
 use Rattle.state.specs.Choice.{◌is◌, ◌among◌}
-use Rattle.state.specs.Field.{bit, bits, mode_field, CPSR_T, SCR_NS, HCR_TGE}
+use Rattle.state.specs.Field.{mode_field, CPSR_T, SCR_NS, HCR_TGE}
 use Rattle.state.specs.Mode.{MONITOR, HYP, is_target, spsr_place, lr_place, known, el1}
 use Rattle.state.specs.Number.{DONE}
 use Rattle.state.specs.Place.{BLOCK_SIZE, CPSR, PC, SCR, HCR, HDCR}
@@ -34,14 +34,13 @@ use Rattle.returns.specs.Return.{saved_word, has_saved, link_word, cpsr_returned
 use Rattle.returns.proofs.After.{kept_mode, kept_il, kept_high, kept_clear, kept_low, word_fits, level_falls, stays_non_secure}
 use Rattle.returns.proofs.After.{saved_exactly, address_fits}
 use Rattle.rules.specs.Event.{RETURN}
-use Rattle.rules.specs.Refusal.{refusal, bad_return}
-use Rattle.rules.specs.Run.{run_by, run}
+use Rattle.rules.specs.Refusal.{refusal}
+use Rattle.rules.specs.Run.{run_by}
 use Rattle.rules.specs.Step.{Refuse, Take, Return, routed_in, done_action, action, block_after, after}
-use Rattle.rules.specs.Verdict.{answer_for}
 use Rattle.rules.specs.declared.event.Event.{Event}
-use Rattle.rules.proofs.Deciding.{event, returned_by, at_return}
+use Rattle.rules.proofs.Deciding.{at_return}
 use Rattle.rules.proofs.Rows.{passed}
-use Rattle.machine.specs.Claims.{target, offset, link, scr_left}
+use Rattle.machine.specs.Claims.{target, offset, link}
 use Rattle.machine.specs.RoundTrip.{KeepsMode, own_subtraction, subtraction, back, preferred_return, RoundTrip}
 use Rattle.machine.proofs.Entering as entering
 use Rattle.machine.proofs.Goodness.{goods, good_stays}

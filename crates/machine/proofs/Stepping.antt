@@ -1,23 +1,25 @@
 -- The step put together: what was decided is carried out; over an answer buffer, a wrong size leaves both buffers.
-use mathlib.Core.Path.{◌≡◌, refl, subst, ◌∙◌}
+use mathlib.Core.Path.{◌≡◌, refl, sym, subst, ◌∙◌}
 use mathlib.Core.Bool.{false}
 use mathlib.Core.List.{List}
 use Prim.Native.Nat.{ℕ, ◌<◌, ◌^◌}
 use lib.ListN.{length}
 use borrow.Author.Tests.{eq-eqb, ne_eqb}
-use Rattle.state.specs.Choice.{◌is◌}
-use Rattle.state.specs.Number.{DONE, BAD_SIZE}
-use Rattle.state.specs.Place.{BLOCK_SIZE}
-use Rattle.state.specs.State.{fault}
+use Rattle.words.specs.Word.{word}
+use Rattle.state.specs.Number.{DONE, BAD_SIZE, BAD_EVENT}
+use Rattle.state.specs.Place.{BLOCK_SIZE, CPSR, SCR, HCR}
+use Rattle.state.specs.State.{fault, fault_of}
 use Rattle.state.proofs.Sets.{Unlike, unlike_among}
 use Rattle.entry.specs.Code.{codes, is_known}
 use Rattle.rules.specs.declared.event.Event.{Event}
 use Rattle.rules.specs.Step.{ANSWER_SIZE, Action, Refuse, action, answer_to, block_after, answer, after, number_returned}
 use Rattle.rules.specs.Step.{block_left, answer_left, answer_bytes}
-use Rattle.rules.specs.Parts.{Carried}
+use Rattle.rules.specs.Known.{direct, SeenCode}
+use Rattle.rules.specs.Parts.{Carried, Ready, Told}
 use Rattle.rules.specs.Verdict.{refused_with}
 use Rattle.rules.specs.declared.verdict.Answer.{Answer}
-use Rattle.rules.proofs.Deciding.{event, bad_size, faulty}
+use Rattle.rules.proofs.Carrying.{refused}
+use Rattle.rules.proofs.Deciding.{event, bad_size, faulty, fault_read, no_code}
 
 module _ (b : List ℕ) (e : Event) where
   carried_out : {x : Action} {r : Answer} {l : List ℕ} → x ≡ action b e → (r ≡ answer_to b x) × (l ≡ block_after b x)
@@ -79,3 +81,28 @@ arm b a w e h = rw e h
 -- a code that is no arm's, as the last of them knows it
 pub no_arm : (code : ℕ) → Unlike (Unit {0}) code codes → is_known code ≡ false
 no_arm code h = (unlike_among (Unit {0}) code codes h).1
+
+-- the three words that were read of a block, and the fault n of these
+module _ (b : List ℕ) (s : length b ≡ BLOCK_SIZE) {cpsr scr hcr n : ℕ} (ec : cpsr ≡ word b CPSR) (es : scr ≡ word b SCR)
+    (eh : hcr ≡ word b HCR) (f : n ≡ fault_of cpsr scr hcr) where
+  -- without a fault the events have all that they ask for
+  pub ready : (m : List ℕ) → length m ≡ ANSWER_SIZE → n ≡ DONE → Ready b m cpsr scr
+  ready m z d = ((s, z, ec, es), sym (fault_read b ec es eh f) ∙ d)
+
+  -- a fault refuses any event
+  pub refused_by_fault : (e : Event) → (n ≡ DONE → ⊥) → {k : ℕ} {l : List ℕ} → Told (refused_with n) k l
+      → Carried b (action b e) k b l
+  refused_by_fault e d t = refused b n (by_fault b e s (fault_read b ec es eh f) d) t
+
+  -- and a code that is no arm's is refused
+  pub refused_by_code : n ≡ DONE → (code a w : ℕ) → Unlike (Unit {0}) code codes → {k : ℕ} {l : List ℕ}
+      → Told (refused_with BAD_EVENT) k l → Carried b (action b (event code a w)) k b l
+  refused_by_code d code a w u t =
+      refused b BAD_EVENT (no_code b a w s (sym (fault_read b ec es eh f) ∙ d) code (no_arm code u)) t
+
+-- what is carried out of the code that a direct step knows, on buffers of the right sizes, is the step
+pub known_stepped : (b buffer : List ℕ) (code a w : ℕ) {known : ℕ} → length b ≡ BLOCK_SIZE → length buffer ≡ ANSWER_SIZE
+    → SeenCode false code a known → {n : ℕ} {l m : List ℕ} → Carried b (action b (event known a w)) n l m
+    → Stepped b (direct (event code a w)) buffer n l m
+known_stepped b buffer code a w {known} s z k h =
+    right_sizes b (direct (event code a w)) buffer s z (performed_as b (direct (event code a w)) (event known a w) (k w) h)
