@@ -6,7 +6,7 @@ ghost use Rattle.std.specs.Prelude.{◌≡◌, ◌+◌, ◌*◌, ◌<◌, ◌≤
 ghost use Rattle.std.proofs.lemmas.List.Edits.{sets};
 ghost use Rattle.state.specs.Choice.{◌is◌};
 ghost use Rattle.records.specs.Layout.{layout, step_size, most_steps, start_block_at, is_old};
-ghost use Rattle.records.specs.Report.{ACCEPTED, start_number};
+ghost use Rattle.records.specs.Report.{ACCEPTED as accepted, start_number};
 ghost use Rattle.records.specs.Claims.{start_of};
 ghost use Rattle.records.specs.Session.{
   session,
@@ -112,7 +112,7 @@ fn due_kind(old: bool, p: Progress) -> u32
 fn judge_start_into(old: bool, r: &[u8], block: &mut [u8]) -> u32
     requires { length block.old ≡ (layout old).size }
     ensures number { result ≡ start_number (layout old) r.now }
-    ensures block { result ≡ ACCEPTED → block.new ≡ start_of (layout old) r.now }
+    ensures block { result ≡ accepted → block.new ≡ start_of (layout old) r.now }
 {
     let fault = judge_start(old, r);
     if fault != ACCEPTED {
