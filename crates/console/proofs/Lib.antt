@@ -1,10 +1,7 @@
 pub mod Filled
 pub mod Telling
 pub mod Batching
-pub mod Listed
 pub mod Batches
 pub mod Guests
-pub mod Walking
-pub mod Lending
 pub mod Sessions
 pub mod References

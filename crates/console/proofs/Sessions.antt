@@ -13,7 +13,7 @@ use Rattle.state.specs.Number.{DONE}
 use Rattle.records.specs.declared.report.Report.{Report}
 use Rattle.records.specs.declared.session.Session.{Session}
 use Rattle.records.specs.Either.{report_of, PublishedInOne}
-use Rattle.records.specs.Session.{CLOSED, session, opened_session, fed_session, fed_runs, feed_number, shutting, shut, closing}
+use Rattle.records.specs.Session.{CLOSED, opened_session, fed_session, fed_runs, feed_number, shutting, shut, closing}
 use Rattle.records.specs.Arrival.{joined}
 use Rattle.records.proofs.Arrivals.{arrival_of}
 use Rattle.records.proofs.Joining.{joins, all_runs, arrival_of_both}

@@ -6,7 +6,6 @@ use Rattle.state.specs.Choice.{◌is◌}
 use Rattle.state.specs.Number.{BAD_SIZE}
 use Rattle.records.specs.declared.report.Report.{Report}
 use Rattle.records.specs.Either.{report_of}
-use Rattle.records.specs.Report.{report}
 
 abbrev pub report_size : ℕ
 report_size = 12

@@ -1,7 +1,7 @@
 -- What C gets of the counts' lines: the number is returned, and number and size, how many bytes were written, stand
 -- little-endian in an answer buffer of 8 bytes. Any other answer buffer, and counts that have not their size, are BAD-SIZE and
 -- leave everything.
-use Rattle.std.specs.Prelude.{Bool, not, ◌&&◌, List, ◌++◌, ℕ, length, if◌then◌else◌}
+use Rattle.std.specs.Prelude.{List, ◌++◌, ℕ, length, if◌then◌else◌}
 use Rattle.words.specs.Word.{le32}
 use Rattle.state.specs.Choice.{◌is◌}
 use Rattle.state.specs.Number.{BAD_SIZE}

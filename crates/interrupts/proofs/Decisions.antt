@@ -1,12 +1,12 @@
 -- The decision table: the 256 numbers of the code are the entries, a test over the whole table; and an entry says of any kind, in
 -- any state with the bits of its index, whether the physical exception is taken, and where it goes.
 use Rattle.std.specs.Prelude.{if◌then◌else◌}
-use mathlib.Core.Path.{◌≡◌, refl, sym, ap, ◌∙◌}
+use mathlib.Core.Path.{◌≡◌, refl}
 use mathlib.Core.Bool.{Bool, true, false, not, ◌&&◌, ◌||◌}
 use mathlib.Core.List.{List, [], ◌∷◌, map}
 use Prim.Native.Nat.{ℕ, ◌/◌, ◌%◌, ◌<◌, ◌≤◌}
 use native.Mathlib.Omega.{arith}
-use lib.Dec.{eqb, leb, ltb, lit<}
+use lib.Dec.{eqb, ltb, lit<}
 use lib.ListN.{get_or}
 use borrow.Author.Tests.{eqb-true, le-leb, ltb-true, ltb-false}
 use Rattle.state.specs.Choice.{◌is◌, ◌among◌}
@@ -15,9 +15,8 @@ use Rattle.state.specs.Mode.{MONITOR, HYP}
 use Rattle.state.specs.State.{secure}
 use Rattle.state.proofs.Test.{every_below, at_below, every_bit, at_bit, true_is_not_false}
 use Rattle.interrupts.specs.Check.{goes}
-use Rattle.interrupts.specs.Decision.{entry, index, index_of, class_of, target_number, physical}
+use Rattle.interrupts.specs.Decision.{entry, index, index_of, target_number, physical}
 use Rattle.interrupts.specs.Decision.{NOT_TAKEN, TO_MONITOR, TO_HYP, TO_DEFAULT, NO_CLASS}
-use Rattle.interrupts.specs.Exception.{Exception, SError, Fiq, Irq}
 use Rattle.interrupts.specs.Former.{entry_as_stored, changed}
 use Rattle.interrupts.specs.Kind.{Kind, serror, fiq, irq, line, R, M, W, mask, own_mode}
 use Rattle.interrupts.specs.Masking.{obeyed}

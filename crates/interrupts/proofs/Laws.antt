@@ -9,7 +9,7 @@ use borrow.Author.Tests.{eqb-true}
 use Rattle.state.specs.Choice.{◌is◌}
 use Rattle.state.specs.Field.{mode_field, SCR_NS, HCR_TGE}
 use Rattle.state.specs.Mode.{HYP, guest}
-use Rattle.state.specs.State.{secure, ns_el1, ns_user}
+use Rattle.state.specs.State.{secure}
 use Rattle.state.proofs.Laws.{in_guest}
 use Rattle.state.proofs.Test.{same, same_eq, every_bit, at_bit}
 use Rattle.interrupts.specs.Check.{first_of, found}

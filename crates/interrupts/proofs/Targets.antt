@@ -1,7 +1,7 @@
 -- An interrupt goes to a mode with a saved state of its own, at an offset of the vector table: once over its kind.
 use mathlib.Core.Path.{refl}
 use mathlib.Core.Bool.{not, ◌&&◌, ◌||◌}
-use Prim.Native.Nat.{ℕ, ◌<◌}
+use Prim.Native.Nat.{ℕ}
 use lib.Dec.{lit<}
 use Rattle.state.specs.Choice.{◌is◌}
 use Rattle.state.specs.Field.{mode_field, HCR_TGE}

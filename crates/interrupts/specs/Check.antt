@@ -1,5 +1,5 @@
 -- What an interrupt check takes, and where that goes (document 01, "The interrupt check").
-use Rattle.std.specs.Prelude.{Bool, true, false, not, ◌&&◌, ◌||◌, List, [], ◌∷◌, ℕ, if◌then◌else◌}
+use Rattle.std.specs.Prelude.{not, ◌&&◌, ◌||◌, List, [], ◌∷◌, ℕ, if◌then◌else◌}
 use Rattle.state.specs.Choice.{◌is◌}
 use Rattle.state.specs.Field.{mode_field, HCR_TGE}
 use Rattle.state.specs.Mode.{MONITOR, HYP}

@@ -1,5 +1,5 @@
 -- Which of the six exceptions is pending, and which can be taken (document 01, "The interrupt check").
-use Rattle.std.specs.Prelude.{Bool, true, false, not, ◌&&◌, ◌||◌, ℕ}
+use Rattle.std.specs.Prelude.{Bool, false, not, ◌&&◌, ◌||◌, ℕ}
 use Rattle.state.specs.Choice.{◌is◌}
 use Rattle.state.specs.Field.{mode_field, HCR_TGE}
 use Rattle.state.specs.Mode.{HYP}

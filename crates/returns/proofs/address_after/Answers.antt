@@ -17,11 +17,13 @@ two_cleared r l = omega arith
 pub returns-then-cpsr_t : goal.returns-then-cpsr_t
 unfolding address_after
 returns-then-cpsr_t c =
-    let difference = wrapped c.args.link c.args.a c.ranges.link.fits c.ranges.a.fits (omega arith) c.wrapping_sub_u32-address.ensures.value in
+    let from = c.ranges in
+    let difference = wrapped _ _ from.link.fits from.a.fits (omega arith) c.wrapping_sub_u32-address.ensures.value in
     rw (told c.cpsr_t.ensures c.if-cpsr_t.true) (one_cleared _ (omega arith) ∙ ap (bits 31 1) difference)
 
 pub returns : goal.returns
 unfolding address_after
 returns c =
-    let difference = wrapped c.args.link c.args.a c.ranges.link.fits c.ranges.a.fits (omega arith) c.wrapping_sub_u32-address.ensures.value in
+    let from = c.ranges in
+    let difference = wrapped _ _ from.link.fits from.a.fits (omega arith) c.wrapping_sub_u32-address.ensures.value in
     rw (told c.cpsr_t.ensures c.if-cpsr_t.false) (two_cleared _ (omega arith) ∙ ap (bits 31 2) difference)

@@ -16,10 +16,12 @@ pub returns-then-hcr_tge : goal.returns-then-hcr_tge
 unfolding known el1 illegal level
 returns-then-hcr_tge c =
     rw c.above.ensures
-    (non_secure_set _ _ (told c.scr_ns.ensures c.if-not-scr_ns.false) (told c.hcr_tge.ensures c.if-hcr_tge.true) c.requires.0 refl)
+    (non_secure_set _ _ (told c.scr_ns.ensures c.if-not-scr_ns.false) (told c.hcr_tge.ensures c.if-hcr_tge.true)
+    c.requires.0 refl)
 
 pub returns : goal.returns
 unfolding known el1 illegal level
 returns c =
     rw c.above-2.ensures
-    (non_secure_set _ _ (told c.scr_ns.ensures c.if-not-scr_ns.false) (told c.hcr_tge.ensures c.if-hcr_tge.false) c.requires.0 refl)
+    (non_secure_set _ _ (told c.scr_ns.ensures c.if-not-scr_ns.false) (told c.hcr_tge.ensures c.if-hcr_tge.false)
+    c.requires.0 refl)

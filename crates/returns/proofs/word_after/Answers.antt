@@ -15,7 +15,9 @@ looked cpsr scr hcr saved set says e = sym (says (mode_field saved) (omega arith
 
 pub returns-then-illegal_modes-saved-eq1 : goal.returns-then-illegal_modes-saved-eq1
 unfolding word_after
-returns-then-illegal_modes-saved-eq1 c = rw (looked _ _ _ _ _ c.illegal_modes.ensures (eq-eqb _ _ c.if-illegal_modes-saved-eq1.true)) c.mode_kept.ensures
+returns-then-illegal_modes-saved-eq1 c =
+    rw (looked _ _ _ _ _ c.illegal_modes.ensures (eq-eqb _ _ c.if-illegal_modes-saved-eq1.true))
+    c.mode_kept.ensures
 
 pub returns : goal.returns
 unfolding word_after
