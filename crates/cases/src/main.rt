@@ -5,11 +5,11 @@
 ghost use Rattle.std.specs.Prelude.{◌≤◌, ◌<◌};
 ghost use Rattle.state.specs.Place.{PLACES};
 
-use libc::STDOUT_FILENO;
 use rules::event::Event;
 use rules::verdict::Answer;
 use state::place;
 use state::place::BLOCK_SIZE;
+use std::io;
 use words::{get_word, put_word};
 
 // How many words a block has.
@@ -17,8 +17,8 @@ const PLACES: u32 = place::PLACES as u32;
 
 // ---- writing
 
-fn say(text: &[u8]) {
-    io::write_all(STDOUT_FILENO, text);
+fn say(rt: &impl Print, text: &[u8]) -> io::Result<()> {
+    rt.write_all(text)
 }
 
 // A hexadecimal digit's character, as the paper writes it.
@@ -31,53 +31,53 @@ fn glyph(d: u32) -> u8 {
     }
 }
 
-fn digit(d: u32) {
+fn digit(rt: &impl Print, d: u32) -> io::Result<()> {
     let text = [glyph(d)];
-    say(&text);
+    say(rt, &text)
 }
 
 // The digit worth unit, unless only zeros stand there.
-fn digit_of(w: u32, unit: u32)
+fn digit_of(rt: &impl Print, w: u32, unit: u32) -> io::Result<()>
     requires { 1 ≤ unit }
 {
     if unit <= w {
-        digit(w / unit);
+        digit(rt, w / unit)?;
     }
+    Ok(())
 }
 
 // A word: 0, or 0x and its digits.
-fn say_word(w: u32) {
+fn say_word(rt: &impl Print, w: u32) -> io::Result<()> {
     if w == 0 {
-        say(b"0");
-        return;
+        return say(rt, b"0");
     }
-    say(b"0x");
-    digit_of(w, 0x1000_0000);
-    digit_of(w, 0x100_0000);
-    digit_of(w, 0x10_0000);
-    digit_of(w, 0x1_0000);
-    digit_of(w, 0x1000);
-    digit_of(w, 0x100);
-    digit_of(w, 0x10);
-    digit(w);
+    say(rt, b"0x")?;
+    digit_of(rt, w, 0x1000_0000)?;
+    digit_of(rt, w, 0x100_0000)?;
+    digit_of(rt, w, 0x10_0000)?;
+    digit_of(rt, w, 0x1_0000)?;
+    digit_of(rt, w, 0x1000)?;
+    digit_of(rt, w, 0x100)?;
+    digit_of(rt, w, 0x10)?;
+    digit(rt, w)
 }
 
 // A register by name and its word after the step.
-fn say_register(name: &[u8], block: &[u8; BLOCK_SIZE], p: usize)
+fn say_register(rt: &impl Print, name: &[u8], block: &[u8; BLOCK_SIZE], p: usize) -> io::Result<()>
     requires { p < PLACES }
 {
-    say(b", ");
-    say(name);
-    say(b" ");
-    say_word(get(block, p));
+    say(rt, b", ")?;
+    say(rt, name)?;
+    say(rt, b" ")?;
+    say_word(rt, get(block, p))
 }
 
 // An answer number: DONE by its name, a refusal by its number.
-fn say_number(n: u32) {
+fn say_number(rt: &impl Print, n: u32) -> io::Result<()> {
     if n == 0 {
-        say(b"DONE");
+        say(rt, b"DONE")
     } else {
-        io::print_decimal(STDOUT_FILENO, n as u64);
+        rt.print(n)
     }
 }
 
@@ -142,150 +142,155 @@ fn same_block(a: &[u8; BLOCK_SIZE], b: &[u8; BLOCK_SIZE]) -> bool {
 // ---- the cases
 
 // An interrupt check's value, up to what is named beside it.
-fn checked(label: &[u8], block: &mut [u8; BLOCK_SIZE], lines: u32) {
-    say(label);
+fn checked(
+    rt: &impl Print,
+    label: &[u8],
+    block: &mut [u8; BLOCK_SIZE],
+    lines: u32,
+) -> io::Result<()> {
+    say(rt, label)?;
     let r = step(block, 9, lines);
-    say_word(r.value);
+    say_word(rt, r.value)
 }
 
-fn case_a() {
+fn case_a(rt: &impl Print) -> io::Result<()> {
     let mut block = block_with(1, 0x13, 0x8000);
     put(&mut block, place::VBAR_NS, 0x1000_0000);
-    checked(b"a ", &mut block, 4);
-    say_register(b"CPSR", &block, place::CPSR);
-    say_register(b"LR_irq", &block, place::LR_IRQ);
-    say_register(b"PC", &block, place::PC);
-    say(b"\n");
+    checked(rt, b"a ", &mut block, 4)?;
+    say_register(rt, b"CPSR", &block, place::CPSR)?;
+    say_register(rt, b"LR_irq", &block, place::LR_IRQ)?;
+    say_register(rt, b"PC", &block, place::PC)?;
+    say(rt, b"\n")
 }
 
-fn case_b() {
+fn case_b(rt: &impl Print) -> io::Result<()> {
     let mut block = block_with(3, 0x13, 0x8000);
     put(&mut block, place::VBAR_NS, 0x1000_0000);
-    checked(b"b ", &mut block, 4);
-    say_register(b"CPSR", &block, place::CPSR);
-    say(b"\n");
+    checked(rt, b"b ", &mut block, 4)?;
+    say_register(rt, b"CPSR", &block, place::CPSR)?;
+    say(rt, b"\n")
 }
 
 // Nothing taken: no byte of the block may differ from the start.
-fn case_c() {
+fn case_c(rt: &impl Print) -> io::Result<()> {
     let start = block_with(3, 0x93, 0x8000);
     let mut block = start;
-    checked(b"c ", &mut block, 4);
+    checked(rt, b"c ", &mut block, 4)?;
     if same_block(&start, &block) {
-        say(b", nothing taken");
+        say(rt, b", nothing taken")?;
     }
-    say(b"\n");
+    say(rt, b"\n")
 }
 
-fn case_d() {
+fn case_d(rt: &impl Print) -> io::Result<()> {
     let mut block = block_with(1, 0x93, 0x8000);
     put(&mut block, place::HCR, 0x10);
-    checked(b"d ", &mut block, 4);
-    say_register(b"CPSR", &block, place::CPSR);
-    say_register(b"ELR_hyp", &block, place::ELR_HYP);
-    say(b"\n");
+    checked(rt, b"d ", &mut block, 4)?;
+    say_register(rt, b"CPSR", &block, place::CPSR)?;
+    say_register(rt, b"ELR_hyp", &block, place::ELR_HYP)?;
+    say(rt, b"\n")
 }
 
-fn case_e() {
+fn case_e(rt: &impl Print) -> io::Result<()> {
     let mut block = block_with(5, 0x53, 0x8000);
-    checked(b"e ", &mut block, 2);
+    checked(rt, b"e ", &mut block, 2)?;
     let mut other = block_with(0x15, 0x53, 0x8000);
-    checked(b"; with SCR 0x15: ", &mut other, 2);
-    say(b"\n");
+    checked(rt, b"; with SCR 0x15: ", &mut other, 2)?;
+    say(rt, b"\n")
 }
 
-fn case_f() {
+fn case_f(rt: &impl Print) -> io::Result<()> {
     let mut block = block_with(1, 0x13, 0x8000);
     put(&mut block, place::HCR, 0x120);
-    checked(b"f ", &mut block, 0);
-    say_register(b"HCR", &block, place::HCR);
-    say_register(b"LR_abt", &block, place::LR_ABT);
-    say(b"\n");
+    checked(rt, b"f ", &mut block, 0)?;
+    say_register(rt, b"HCR", &block, place::HCR)?;
+    say_register(rt, b"LR_abt", &block, place::LR_ABT)?;
+    say(rt, b"\n")
 }
 
-fn case_g() {
+fn case_g(rt: &impl Print) -> io::Result<()> {
     let mut block = block_with(1, 0x30, 0xFFFF_FFFE);
-    say(b"g ");
+    say(rt, b"g ")?;
     let r = step(&mut block, 2, 0);
-    say_word(r.value);
-    say_register(b"LR_svc", &block, place::LR_SVC);
-    say_register(b"CPSR", &block, place::CPSR);
-    say(b"\n");
+    say_word(rt, r.value)?;
+    say_register(rt, b"LR_svc", &block, place::LR_SVC)?;
+    say_register(rt, b"CPSR", &block, place::CPSR)?;
+    say(rt, b"\n")
 }
 
-fn case_h() {
+fn case_h(rt: &impl Print) -> io::Result<()> {
     let mut block = block_with(1, 0x16, 0x8000);
-    say(b"h ");
+    say(rt, b"h ")?;
     let r = step(&mut block, 3, 0);
-    say_word(r.value);
-    say_register(b"SCR", &block, place::SCR);
-    say_register(b"LR_mon", &block, place::LR_MON);
-    say(b"\n");
+    say_word(rt, r.value)?;
+    say_register(rt, b"SCR", &block, place::SCR)?;
+    say_register(rt, b"LR_mon", &block, place::LR_MON)?;
+    say(rt, b"\n")
 }
 
 // A banked read of the cell A: its number, and what it read.
-fn read(label: &[u8], start: [u8; BLOCK_SIZE], a: u32) -> u32 {
+fn read(rt: &impl Print, label: &[u8], start: [u8; BLOCK_SIZE], a: u32) -> io::Result<u32> {
     let mut block = start;
-    say(label);
+    say(rt, label)?;
     let r = step(&mut block, 10, a);
-    say_number(r.number);
-    r.value
+    say_number(rt, r.number)?;
+    Ok(r.value)
 }
 
-fn case_i() {
-    read(b"i ", block_with(1, 0x13, 0x8000), 31);
-    read(b"; from 0x16: ", block_with(1, 0x16, 0x8000), 31);
-    say(b"\n");
+fn case_i(rt: &impl Print) -> io::Result<()> {
+    read(rt, b"i ", block_with(1, 0x13, 0x8000), 31)?;
+    read(rt, b"; from 0x16: ", block_with(1, 0x16, 0x8000), 31)?;
+    say(rt, b"\n")
 }
 
-fn case_j() {
-    read(b"j ", block_with(1, 0x1A, 0x8000), 30);
-    read(b"; A 62: ", block_with(1, 0x1A, 0x8000), 62);
-    read(b"; A 7: ", block_with(1, 0x1A, 0x8000), 7);
-    say(b"\n");
+fn case_j(rt: &impl Print) -> io::Result<()> {
+    read(rt, b"j ", block_with(1, 0x1A, 0x8000), 30)?;
+    read(rt, b"; A 62: ", block_with(1, 0x1A, 0x8000), 62)?;
+    read(rt, b"; A 7: ", block_with(1, 0x1A, 0x8000), 7)?;
+    say(rt, b"\n")
 }
 
 // The word that was read is LR_mon's.
-fn case_k() {
+fn case_k(rt: &impl Print) -> io::Result<()> {
     let start = block_with(0, 0x13, 0x8000);
-    let w = read(b"k ", start, 28);
+    let w = read(rt, b"k ", start, 28)?;
     if w == get(&start, place::LR_MON) {
-        say(b", LR_mon");
+        say(rt, b", LR_mon")?;
     }
-    say(b"\n");
+    say(rt, b"\n")
 }
 
 // i, j and k again with a different non-zero word at every place, so that a read of the wrong place shows.
-fn cases_again() {
+fn cases_again(rt: &impl Print) -> io::Result<()> {
     let svc = full_block_with(1, 0x13, 0x8000);
     let mon = full_block_with(1, 0x16, 0x8000);
     let hyp = full_block_with(1, 0x1A, 0x8000);
-    read(b"again: i ", svc, 31);
-    let sp_hyp = read(b"; from 0x16: ", mon, 31);
-    say(b" ");
-    say_word(sp_hyp);
-    let elr_hyp = read(b"\nagain: j ", hyp, 30);
-    say(b" ");
-    say_word(elr_hyp);
-    read(b"; A 62: ", hyp, 62);
-    read(b"; A 7: ", hyp, 7);
-    let lr_mon = read(b"\nagain: k ", full_block_with(2, 0x13, 0x8000), 28);
-    say(b", LR_mon ");
-    say_word(lr_mon);
-    say(b"\n");
+    read(rt, b"again: i ", svc, 31)?;
+    let sp_hyp = read(rt, b"; from 0x16: ", mon, 31)?;
+    say(rt, b" ")?;
+    say_word(rt, sp_hyp)?;
+    let elr_hyp = read(rt, b"\nagain: j ", hyp, 30)?;
+    say(rt, b" ")?;
+    say_word(rt, elr_hyp)?;
+    read(rt, b"; A 62: ", hyp, 62)?;
+    read(rt, b"; A 7: ", hyp, 7)?;
+    let lr_mon = read(rt, b"\nagain: k ", full_block_with(2, 0x13, 0x8000), 28)?;
+    say(rt, b", LR_mon ")?;
+    say_word(rt, lr_mon)?;
+    say(rt, b"\n")
 }
 
-fn main() {
-    case_a();
-    case_b();
-    case_c();
-    case_d();
-    case_e();
-    case_f();
-    case_g();
-    case_h();
-    case_i();
-    case_j();
-    case_k();
-    cases_again();
+fn main(rt: HostRuntime) -> io::Result<()> {
+    case_a(&rt)?;
+    case_b(&rt)?;
+    case_c(&rt)?;
+    case_d(&rt)?;
+    case_e(&rt)?;
+    case_f(&rt)?;
+    case_g(&rt)?;
+    case_h(&rt)?;
+    case_i(&rt)?;
+    case_j(&rt)?;
+    case_k(&rt)?;
+    cases_again(&rt)
 }

@@ -1,5 +1,4 @@
 -- A return, on each way through its tests, comes to what the rows of refusals and the rules say.
-use Rattle.std.specs.Prelude.{if◌then◌else◌}
 use mathlib.Core.Path.{◌≡◌, refl, sym, ap, ◌∙◌}
 use mathlib.Core.Bool.{Bool, true, false, not, ◌&&◌, ◌||◌}
 use mathlib.Core.List.{List}
@@ -15,8 +14,7 @@ use Rattle.state.specs.Number.{DONE, BAD_STATE, BAD_EVENT, NOT_HERE}
 use Rattle.state.specs.Place.{BLOCK_SIZE, PLACES, NO_PLACE, CPSR, PC, SCR, HCR}
 use Rattle.state.specs.State.{fault}
 use Rattle.state.proofs.Good.{parts_of_good}
-use Rattle.state.proofs.Laws.{spsr_inside, lr_inside}
-use Rattle.state.proofs.Test.{and_left, same, same_eq, every_below, at_below}
+use Rattle.state.proofs.Test.{and_left, same, same_eq, at_below}
 use Rattle.returns.specs.Parts.{Leaves}
 use Rattle.returns.specs.Return.{wrong_a, bad_saved, word_after, address_after}
 use Rattle.rules.specs.Event.{RETURN}

@@ -4,8 +4,7 @@ use Rattle.std.specs.Prelude.{if◌then◌else◌}
 use mathlib.Core.Path.{◌≡◌, refl, sym, ap, subst, ◌∙◌}
 use mathlib.Core.Bool.{Bool, true, false, ◌&&◌, ◌||◌}
 use mathlib.Core.List.{List, [], ◌∷◌}
-use mathlib.Core.Logic.{◌↔◌}
-use Prim.Native.Nat.{ℕ, ◌+◌, ◌*◌, ◌/◌, ◌%◌, ◌^◌, ◌<◌, ◌≤◌}
+use Prim.Native.Nat.{ℕ, ◌+◌, ◌*◌, ◌/◌, ◌%◌, ◌^◌, ◌<◌}
 use native.Mathlib.Omega.{arith}
 use native.Mathlib.Nat.{mod-eq_of_lt}
 use lib.Dec.{ltb, lit<}
@@ -19,7 +18,7 @@ use Rattle.instruction.specs.Instruction.{Parts, encoding, in_a, in_condition, i
 use Rattle.instruction.specs.Instruction.{in_range, is_of, no_parts, is_read, reading, read_number, are_parts, given, holds, field_of}
 use Rattle.instruction.specs.Instruction.{writing, write_number}
 use Rattle.instruction.specs.Places.{a_in}
-use Rattle.instruction.specs.Theorems.{Written, InstructionTheorems}
+use Rattle.instruction.specs.Theorems.{InstructionTheorems}
 use Rattle.instruction.proofs.Tables.{Tiles, tiled, Each, unit, whole, below, put_is_in, same_total}
 use Rattle.instruction.proofs.Tests.{not_both}
 use Rattle.instruction.proofs.Writing.{in_ranges, ranges, mrs_word, msr_word}

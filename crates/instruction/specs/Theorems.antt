@@ -1,7 +1,7 @@
 -- What is proved of instruction words (document 02, No. 14).
 use Rattle.std.specs.Prelude.{◌≡◌, true, ◌↔◌, ℕ, ◌<◌, ◌^◌}
 use Rattle.state.specs.Number.{DONE, NOT_BANKED}
-use Rattle.instruction.specs.Instruction.{Parts, no_parts, is_read, are_parts, reading, read_number, writing, write_number}
+use Rattle.instruction.specs.Instruction.{Parts, no_parts, are_parts, reading, read_number, writing, write_number}
 
 -- some parts are written as this word
 pub record Written (w : ℕ) : Type 0 where

@@ -1,16 +1,16 @@
 -- What is proved of a recording: its contract, put beside what trace proves of published traces.
 use mathlib.Core.Path.{◌≡◌, refl, sym, ap, ◌∙◌}
-use mathlib.Core.Logic.{◌⊎◌, inl, inr, ◌↔◌}
+use mathlib.Core.Logic.{◌⊎◌, inl, inr}
 use mathlib.Core.Bool.{Bool, true, false}
 use mathlib.Core.List.{List, ◌++◌}
 use Prim.Native.Nat.{ℕ, ◌+◌, ◌-◌, ◌<◌, ◌≤◌}
 use native.Mathlib.Omega.{arith}
-use lib.ListN.{length, take, drop, length-append}
+use lib.ListN.{length, take, drop}
 use lib.Seq.{take_at, drop_at, drop-drop, length-take-le}
 use lib.Dec.{leb, eqb}
 use borrow.Author.Tests.{eqb-true, eqb-false, leb-true, leb-false, eq-eqb, ne_eqb}
 use Rattle.rules.specs.declared.event.Event.{Event}
-use Rattle.records.specs.Layout.{Layout, Lawful, new_layout, most_steps, place_of, end_size}
+use Rattle.records.specs.Layout.{Layout, Lawful, new_layout, most_steps}
 use Rattle.records.specs.Published.{published}
 use Rattle.records.specs.Report.{ACCEPTED, report}
 use Rattle.records.proofs.Records.{length-published}

@@ -16,7 +16,7 @@ use Rattle.records.specs.declared.session.Session.{Session}
 use Rattle.records.specs.Layout.{Layout, Lawful, layout}
 use Rattle.records.specs.Published.{Published}
 use Rattle.records.specs.Report.{report, ACCEPTED, SHORT}
-use Rattle.records.specs.Session.{feed_number, closing, shutting, shut, opened, fed, fed_all}
+use Rattle.records.specs.Session.{feed_number, closing, opened, fed, fed_all}
 use Rattle.records.specs.Arrival.{joined, known_number, Arrival}
 use Rattle.records.proofs.Lawfuls.{lawful}
 use Rattle.records.proofs.Faults.{differ, zero_or_not}

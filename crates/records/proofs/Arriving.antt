@@ -5,7 +5,7 @@ use mathlib.Core.Path.{◌≡◌, refl, sym, ap, ◌∙◌, subst}
 use mathlib.Core.Bool.{Bool, true, false}
 use mathlib.Core.Logic.{◌⊎◌, inl, inr}
 use mathlib.Core.List.{List}
-use Prim.Native.Nat.{ℕ, zero, suc, ◌+◌, ◌-◌, ◌%◌, ◌<◌, ◌≤◌, ◌^◌}
+use Prim.Native.Nat.{ℕ, zero, suc, ◌+◌, ◌%◌, ◌<◌, ◌≤◌, ◌^◌}
 use native.Mathlib.Omega.{arith}
 use native.Mathlib.Nat.{mul-zero, mul-suc, mul-le-mul, mod-eq_of_lt}
 use lib.ListN.{length, take, drop, length-drop, length-replicate, drop_of_length-le}
@@ -22,7 +22,7 @@ use Rattle.records.specs.Report.{unless, ◌else◌, refused, head_number, start
 use Rattle.records.specs.Published.{step_record}
 use Rattle.records.specs.Report.{report, same_bytes, event_of, ACCEPTED, SHORT, BAD_RECORD, BAD_COUNT, WRONG_STEP, TRAILING}
 use Rattle.records.specs.Claims.{start_of}
-use Rattle.records.specs.Session.{AT_START, OVER, session, is_over, closing, close_number, due, due_size, due_kind}
+use Rattle.records.specs.Session.{AT_START, OVER, session, is_over, closing, close_number, due_size, due_kind}
 use Rattle.records.specs.Session.{due_number, nothing_held, opened}
 use Rattle.records.specs.Session.{faulty, judged, grown, fed}
 use Rattle.records.specs.Fed.{Takes}
@@ -31,7 +31,6 @@ use Rattle.records.proofs.Faults.{zero_or_not, below, else_second, refused_on, r
 use Rattle.records.proofs.Faults.{head_bad, head_whole}
 use Rattle.records.proofs.Judging.{start_whole}
 use Rattle.records.proofs.Told.{end_whole}
-use Rattle.records.proofs.Feeding as feeding
 use Rattle.records.proofs.Feeding.{due_step, due_end, due_least, due_fault, judged-faulty, judged_right}
 use Rattle.records.proofs.Feeding.{few, other, part, lying, fed-faulty, fed_over}
 

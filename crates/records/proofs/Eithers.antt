@@ -3,10 +3,10 @@ use Rattle.std.specs.Prelude.{if◌then◌else◌}
 use mathlib.Core.Path.{◌≡◌, refl, sym, ap, ◌∙◌, subst}
 use mathlib.Core.Logic.{◌⊎◌, inl, inr, ◌↔◌}
 use mathlib.Core.Bool.{Bool, true, false, not}
-use mathlib.Core.List.{List, [], ◌∷◌, ◌++◌, append_assoc}
+use mathlib.Core.List.{List, [], ◌∷◌, ◌++◌}
 use Prim.Native.Nat.{ℕ, suc, ◌+◌, ◌-◌, ◌*◌, ◌<◌, ◌≤◌}
 use native.Mathlib.Omega.{arith}
-use lib.ListN.{length, take, drop, get_or, replicate, length-take, length-replicate}
+use lib.ListN.{length, take, drop, replicate, length-take, length-replicate}
 use lib.Dec.{eqb, leb, ltb}
 use Rattle.words.specs.Word.{half, spelt, Bytes}
 use Rattle.words.proofs.Spell.{bytes_none, bytes_zeros}
@@ -19,10 +19,10 @@ use Rattle.records.specs.Published.{AreEvents, Published, published, run}
 use Rattle.records.specs.Published.{start_record, step_showing, step_record, step_records, end_record}
 use Rattle.records.specs.Report.{report, report_from, head_number, step_number, refused, unless, ◌else◌, same_bytes, event_of}
 use Rattle.records.specs.Report.{ACCEPTED, BAD_RECORD, WRONG_STEP}
-use Rattle.records.specs.Claims.{Says, Misjudged, judged_to, due_size, changed, Meets, ChangedAt, InStep}
-use Rattle.records.specs.Claims.{LeavesUnread, ReadsStartAndEndOnly, WalksTheOthers}
+use Rattle.records.specs.Claims.{Misjudged, judged_to, due_size, changed, Meets, ChangedAt, InStep}
+use Rattle.records.specs.Claims.{LeavesUnread}
 use Rattle.records.specs.Theorems.{OfPublished, OfChanged}
-use Rattle.records.specs.Either.{report_of, PublishedInOne, MeetsBoth, RefusesTraces, AcceptsAll, OfBoth}
+use Rattle.records.specs.Either.{report_of, PublishedInOne, MeetsBoth, OfBoth}
 use Rattle.records.proofs.Faults.{below, differ, head_bad}
 use Rattle.records.proofs.Heads.{old_by, cut_old, start_tells, published_tells, few_short}
 use Rattle.records.proofs.Begun.{old_front}

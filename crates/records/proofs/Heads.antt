@@ -1,6 +1,6 @@
 -- The head of a Start tells the layout, and nothing behind it does: so a published trace has the layout that it was published in, and
 -- keeps it with more bytes, with later bytes changed, and cut behind the head. Of fewer bytes every layout says the same.
-use mathlib.Core.Path.{◌≡◌, refl, sym, ap, ◌∙◌}
+use mathlib.Core.Path.{◌≡◌, sym, ap, ◌∙◌}
 use mathlib.Core.Bool.{Bool, true, false, not, ◌&&◌}
 use mathlib.Core.Logic.{◌⊎◌, inl, inr}
 use mathlib.Core.List.{List, ◌++◌}
@@ -13,7 +13,7 @@ use borrow.Author.Tests.{le-leb}
 use Rattle.words.specs.Word.{half}
 use Rattle.state.specs.Choice.{◌is◌}
 use Rattle.records.specs.Layout.{Layout, layout, new_layout, is_old, head_size, start_size, kind_at}
-use Rattle.records.specs.Published.{start_record, step_records, end_record, published, Published}
+use Rattle.records.specs.Published.{start_record, published, Published}
 use Rattle.records.specs.Report.{head_number, start_number, report, ACCEPTED, SHORT}
 use Rattle.records.proofs.Faults.{head_whole, head_short, below, else_zero, refused_zero}
 use Rattle.records.proofs.Begun.{old_front}

@@ -2,29 +2,28 @@
 -- a head have come, those of both layouts are the same; the head then tells the layout for good, and behind the Start the stage does;
 -- behind the End, and once a fault is known, the layout makes no difference.
 use Rattle.std.specs.Prelude.{if◌then◌else◌}
-use mathlib.Core.Path.{◌≡◌, refl, sym, ap, ◌∙◌, subst}
+use mathlib.Core.Path.{◌≡◌, refl, sym, ap, ◌∙◌}
 use mathlib.Core.Bool.{Bool, true, false, not, ◌&&◌}
-use mathlib.Core.Logic.{◌⊎◌, inl, inr, ◌↔◌}
+use mathlib.Core.Logic.{◌⊎◌, inl, inr}
 use mathlib.Core.List.{List, [], ◌∷◌, ◌++◌, append_assoc, append-nil}
 use Prim.Native.Nat.{ℕ, ◌+◌, ◌<◌, ◌≤◌}
 use native.Mathlib.Omega.{arith}
-use lib.ListN.{length, take, drop, replicate, take-append-drop, length-append, length-take, length-replicate}
-use lib.Seq.{sets, sets-eq, take_at, drop_at, take-append-le, take-append_seam, drop-append-le}
-use lib.Dec.{eqb, leb, lit<}
-use borrow.Author.Tests.{eq-eqb, ne_eqb, eqb-false}
-use Rattle.words.specs.Word.{Bytes}
+use lib.ListN.{length, take, drop, take-append-drop, length-append, length-replicate}
+use lib.Seq.{sets, sets-eq, take_at, drop_at, take-append_seam, drop-append-le}
+use lib.Dec.{leb, lit<}
+use borrow.Author.Tests.{eq-eqb, eqb-false}
 use Rattle.state.specs.Choice.{◌is◌}
 use Rattle.records.specs.declared.report.Report.{Report}
 use Rattle.records.specs.declared.session.Progress.{Progress}
 use Rattle.records.specs.declared.session.Session.{Session}
 use Rattle.records.specs.Layout.{Layout, layout, new_layout, is_old, layout_of, head_size, start_size, step_size}
-use Rattle.records.specs.Report.{report, ACCEPTED, SHORT, TRAILING}
-use Rattle.records.specs.Either.{report_of, PublishedInOne}
-use Rattle.records.specs.Session.{AT_START, OVER, session, is_live, is_over, no_block, nothing_held, opened, holding, refusing, faulty}
+use Rattle.records.specs.Report.{TRAILING}
+use Rattle.records.specs.Either.{report_of}
+use Rattle.records.specs.Session.{OVER, session, is_live, is_over, no_block, nothing_held, opened, holding, refusing, faulty}
 use Rattle.records.specs.Session.{grown, fed, opened_session, comes_old, narrowed, widened, numbers_of, fed_session, fed_runs}
 use Rattle.records.specs.Session.{feed_number, closing}
 use Rattle.records.specs.Arrival.{joined, known_number, ArrivalOfBoth}
-use Rattle.records.proofs.Faults.{below, zero_or_not}
+use Rattle.records.proofs.Faults.{below}
 use Rattle.records.proofs.Lawfuls.{lawful}
 use Rattle.records.proofs.Begun.{old_short, old_front}
 use Rattle.records.proofs.Feeding.{dead, dead_closed, alive, few, fed_cut, fed_dead, fed_over, fed_nothing}

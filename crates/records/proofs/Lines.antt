@@ -1,5 +1,5 @@
 -- By what each layout sees: the old one a check as it is, the new one what a direct step sees.
-use mathlib.Core.Path.{◌≡◌, refl}
+use mathlib.Core.Path.{refl}
 use Rattle.rules.specs.Known.{seen}
 use Rattle.machine.proofs.Lines as machine
 use Rattle.records.specs.Lines.{LinesByLayout}

@@ -8,23 +8,23 @@ use mathlib.Core.Logic.{◌⊎◌, inl, inr}
 use mathlib.Core.List.{List, [], ◌∷◌, ◌++◌, append_assoc, append-nil}
 use Prim.Native.Nat.{ℕ, zero, suc, ◌+◌, ◌<◌, ◌≤◌}
 use native.Mathlib.Omega.{arith}
-use lib.ListN.{length, replicate, length-append, length-replicate}
+use lib.ListN.{length, length-append, length-replicate}
 use lib.Seq.{length-sets}
-use lib.Dec.{eqb, leb, ltb}
-use borrow.Author.Tests.{eqb-true, eqb-false, lt-leb, le-ltb}
+use lib.Dec.{leb}
+use borrow.Author.Tests.{eqb-true, eqb-false, lt-leb}
 use Rattle.state.specs.Choice.{◌is◌}
 use Rattle.records.specs.declared.session.Progress.{Progress}
 use Rattle.records.specs.declared.session.Session.{Session}
-use Rattle.records.specs.Layout.{Layout, Lawful, head_size, start_size, step_size, end_size}
-use Rattle.records.specs.Report.{head_number, start_number, event_of, TRAILING}
+use Rattle.records.specs.Layout.{Layout, Lawful, head_size, start_size, step_size}
+use Rattle.records.specs.Report.{head_number, event_of, TRAILING}
 use Rattle.records.specs.Claims.{start_of}
-use Rattle.records.specs.Session.{AT_START, OVER, session, is_live, is_over, no_block, nothing_held, opened, due_size, due_kind, due_number}
-use Rattle.records.specs.Session.{due_stage, due_block, faulty, unless_faulty, advanced, judged, looked, grown, fed_byte, fed}
+use Rattle.records.specs.Session.{AT_START, OVER, is_live, is_over, no_block, nothing_held, opened, due_size, due_kind, due_number}
+use Rattle.records.specs.Session.{faulty, unless_faulty, advanced, judged, looked, grown, fed}
 use Rattle.records.specs.Fed.{Takes}
-use Rattle.records.proofs.Faults.{zero_or_not, below}
+use Rattle.records.proofs.Faults.{below}
 use Rattle.records.proofs.Judging.{block_whole}
-use Rattle.records.proofs.Feeding.{dead, alive, due_all, due_step, due_end, due_least, fed_dead, fed_over, fed_full}
-use Rattle.records.proofs.Feeding.{grown_more, grown_none, byte_held, judged-faulty, judged_right}
+use Rattle.records.proofs.Feeding.{dead, alive, due_step, due_end, due_least, fed_dead, fed_over, fed_full}
+use Rattle.records.proofs.Feeding.{grown_more, grown_none, byte_held}
 
 module _ (L : Layout) (LL : Lawful L) where
   pub data Form (s : List ℕ) (t : Session) : Type 0 where

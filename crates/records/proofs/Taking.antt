@@ -10,15 +10,14 @@ use native.Mathlib.Nat.{add-zero, mul-zero, mul-suc, mod-eq_of_lt}
 use lib.ListN.{length, take, drop, length-replicate, length-drop, take-append-drop, drop_of_length-le}
 use lib.Seq.{sets, sets-eq, length-sets, length-take-le, drop-drop}
 use lib.Dec.{eqb, leb}
-use borrow.Author.Tests.{le-leb, lt-leb, lt-ltb, le-ltb, eq-eqb, ne_eqb, leb-false}
+use borrow.Author.Tests.{le-leb, lt-leb, lt-ltb, le-ltb, eq-eqb, ne_eqb}
 use Rattle.words.specs.Word.{half}
 use Rattle.words.proofs.Spell.{half_front}
-use Rattle.state.specs.Choice.{◌is◌}
 use Rattle.records.specs.declared.session.Progress.{Progress}
 use Rattle.records.specs.declared.session.Session.{Session}
 use Rattle.records.specs.Layout.{Layout, head_size, start_size, step_size, end_size, length_at, kind_at}
 use Rattle.records.specs.Report.{unless, ◌else◌, head_number, event_of, SHORT, BAD_RECORD}
-use Rattle.records.specs.Session.{AT_START, OVER, session, is_live, is_over, holding, due, due_size, due_kind}
+use Rattle.records.specs.Session.{AT_START, OVER, session, is_live, is_over, holding, due_size, due_kind}
 use Rattle.records.specs.Session.{due_number, advancing, nothing_held}
 use Rattle.records.specs.Session.{faulty, unless_faulty, advanced, judged, looked, grown, fed}
 use Rattle.records.specs.declared.run.Run.{Run}

@@ -3,8 +3,6 @@
 use Rattle.std.specs.Prelude.{◌≡◌, Bool, true, false, List, ℕ, zero, suc, ◌*◌, ◌<◌, ◌≤◌, length, take, drop}
 use Rattle.words.specs.Word.{spelt}
 use Rattle.state.specs.Place.{BLOCK_SIZE, OLD_BLOCK_SIZE}
-use Rattle.rules.specs.Known.{seen}
-use Rattle.rules.specs.declared.event.Event.{Event}
 use Rattle.rules.specs.declared.verdict.Answer.{Answer}
 use Rattle.records.specs.declared.run.Run.{Run}
 use Rattle.records.specs.Layout.{Layout, with_hdcr0, layout, step_size, number_at, value_at, block_after_at}

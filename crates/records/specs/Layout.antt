@@ -2,7 +2,7 @@
 --
 -- All that is said of traces is said of any layout, which is a value of Layout, and of Lawful, which has what the theorems ask of
 -- it. There are two (document 02, No. 11).
-use Rattle.std.specs.Prelude.{◌≡◌, Bool, true, false, not, ◌&&◌, List, ◌++◌, ℕ, ◌+◌, ◌*◌, ◌<◌, ◌^◌, length, take, leb, if◌then◌else◌}
+use Rattle.std.specs.Prelude.{◌≡◌, Bool, true, false, not, ◌&&◌, List, ◌++◌, ℕ, ◌+◌, ◌*◌, ◌<◌, ◌^◌, length, take, leb}
 use Rattle.words.specs.Word.{half, le32, Bytes}
 use Rattle.state.specs.Choice.{◌is◌}
 use Rattle.state.specs.Place.{BLOCK_SIZE, OLD_BLOCK_SIZE}

@@ -4,49 +4,53 @@
 // of a directory or a closed input, prints CANNOT READ: it is not the end of the input.
 #![tactic(auto)]
 
-use libc::{STDIN_FILENO, STDOUT_FILENO};
 use records::session::{Progress, RECORD_SIZE};
 use state::place::BLOCK_SIZE;
+use std::io;
+use std::io::Read;
 
-fn print_report(p: Progress) {
+// How many bytes a read asks for.
+const RUN_SIZE: usize = 65536;
+
+fn print_report(rt: &impl Print, p: Progress) -> io::Result<()> {
     let v = session::close(p);
-    io::print_decimal(STDOUT_FILENO, v.number as u64);
-    io::write_all(STDOUT_FILENO, b" ");
-    io::print_decimal(STDOUT_FILENO, v.place as u64);
-    io::write_all(STDOUT_FILENO, b" ");
-    io::print_decimal(STDOUT_FILENO, v.steps as u64);
-    io::write_all(STDOUT_FILENO, b"\n");
+    rt.print(v.number)?;
+    rt.write_all(b" ")?;
+    rt.print(v.place)?;
+    rt.write_all(b" ")?;
+    rt.print(v.steps)?;
+    rt.write_all(b"\n")
 }
 
-fn cannot_read() {
-    io::write_all(STDOUT_FILENO, b"CANNOT READ\n");
+fn cannot_read(rt: &impl Print) -> io::Result<()> {
+    rt.write_all(b"CANNOT READ\n")
 }
 
-// The numbers of the session after a read, and what the read answered: how many bytes came, 0 at the end of the input, or less
-// where it failed.
+// The numbers of the session after a read, and how many bytes came: 0 at the end of the input.
 #[derive(Clone, Copy)]
 struct Turn {
     progress: Progress,
-    got: isize,
+    got: usize,
 }
 
 // Reads once, and feeds what came.
 fn read_some(
+    input: &mut impl Read,
     p: Progress,
     block: &mut [u8; BLOCK_SIZE],
     unfinished: &mut [u8; RECORD_SIZE],
     run: &mut [u8],
-) -> Turn {
-    let got = libc::read(STDIN_FILENO, run);
-    let n = io::count(got, run);
-    Turn {
-        progress: session::feed(p, block, unfinished, &run[..n]),
+) -> io::Result<Turn> {
+    let got = input.read(run)?;
+    Ok(Turn {
+        progress: session::feed(p, block, unfinished, &run[..got]),
         got,
-    }
+    })
 }
 
 // A proved loop ends, and nothing says that an input does: so the turns are counted, down from a number that no run uses up.
-fn judge_input(run: &mut [u8]) {
+fn judge_input(rt: &(impl Input + Print), run: &mut [u8]) -> io::Result<()> {
+    let mut input = rt.reader();
     let opened = session::open();
     let mut p = opened.progress;
     let mut block = opened.block;
@@ -54,19 +58,17 @@ fn judge_input(run: &mut [u8]) {
     let mut got = 1;
     let mut turns = u64::MAX;
     while 0 < turns && 0 < got {
-        let t = read_some(p, &mut block, &mut unfinished, run);
+        let Ok(t) = read_some(&mut input, p, &mut block, &mut unfinished, run) else {
+            return cannot_read(rt);
+        };
         p = t.progress;
         got = t.got;
         turns -= 1;
     }
-    if got < 0 {
-        cannot_read();
-        return;
-    }
-    print_report(p);
+    print_report(rt, p)
 }
 
-fn main() {
-    let mut run = io::large_buffer();
-    judge_input(&mut run);
+fn main(rt: HostRuntime) -> io::Result<()> {
+    let mut run = [0u8; RUN_SIZE];
+    judge_input(&rt, &mut run)
 }
