@@ -418,9 +418,8 @@ def try_readme():
     with open('console', 'w', encoding='utf-8') as script:
         script.write('#!/bin/sh\nexec ' + ' '.join(f"'{word}'" for word in COMMAND) + ' "$@"\n')
     os.chmod('console', 0o755)
-    for folder in ('samples', 'fleet'):
-        os.symlink(os.path.join(ROOT, folder), folder)
-    *examples, add, spread = readme_blocks()
+    os.symlink(SAMPLES, 'samples')
+    *examples, awk, spread = readme_blocks()
     for command, out in re.findall(r'^\$ (.*)\n((?:[^$].*\n)*)', ''.join(examples), re.M):
         seen = shell(f'({command}) 2>&1')
         expect(f'README: {command}', seen[1].decode() == out, seen)
@@ -430,16 +429,24 @@ def try_readme():
     for name in os.listdir(FOLDER):
         os.symlink(os.path.join(FOLDER, name), f'july/{name}.trace')
     status, out, err = shell(spread)
-    *told, end = re.sub(rb'^july/(\d+)\.trace', os.fsencode(FOLDER) + rb'/\1', err, flags=re.M).splitlines()
-    expect('README: a month in lots', (status, out) == (1, b'') and b'july.lots: ' in end, (status, out, end))
-    expect('the refused are told, each once', sorted(told) == sorted(refused.splitlines()), told[:3])
-    expect('the counts are those of one console', read('july.txt') == lines_of(count(*names)), read('july.txt'))
-    expect_totals('which are totals', [HONEST], 0, together(count(*names), count(HONEST)), totals=write('sum', read('july.txt')))
-    os.mkdir('parts')
-    os.rename('july.txt', 'parts/july')
-    write('parts/june', lines_of(count(HONEST)))
-    seen = shell(add)
-    expect('README: the sum of totals', seen == (0, lines_of(together(count(*names), count(HONEST))), b''), seen)
+    told = sorted(re.sub(rb'^july/(\d+)\.trace', os.fsencode(FOLDER) + rb'/\1', err, flags=re.M).splitlines())
+    expect('README: xargs: a refused trace ends it with 123, and no count is printed', (status, out) == (123, b''), (status, out))
+    expect('the refused are told, in whole lines', told == sorted(refused.splitlines()), told[:3])
+    expect('in several totals files', len(os.listdir('parts')) > 1, os.listdir('parts'))
+    expect('README: the sum of them', shell(awk) == (0, lines_of(count(*names)), b''), shell(awk))
+    expect_totals('which are totals', [HONEST], 0, together(count(*names), count(HONEST)), totals=write('sum', shell(awk)[1]))
+    try_sum(awk)
+
+
+def try_sum(awk):
+    for name in os.listdir('parts'):
+        os.remove(f'parts/{name}')
+    write('parts/1', lines_of({key: value - 1 for key, value in FULLEST.items()}))
+    write('parts/2', lines_of({key: 1 for key in FULLEST}))
+    write('parts/3', b'')
+    expect('README: a sum as large as can be', shell(awk) == (0, lines_of(FULLEST), b''), shell(awk))
+    write('parts/3', b'4 31 1\n')
+    expect('README: a sum that passes it', shell(awk) == (1, b'', b'a count passes 4294967295\n'), shell(awk))
 
 
 def try_leaks():
