@@ -11,7 +11,7 @@ results = []
 # The project before, file by file. Its crate `rules` is called `law` afterwards.
 BEFORE = {
     'crates/state/specs/Place.antt': '''-- Places.
-use Prim.Native.Nat.{ℕ}
+use Rattle.std.specs.Prelude.{ℕ, ◌+◌}
 
 -- of the CPSR
 abbrev pub CPSR : ℕ
@@ -29,15 +29,15 @@ module over (n : ℕ) where
 ''',
     'crates/state/src/place.rt': '''// Places.
 pub fn is_place(p: usize) -> bool
-    requires { ⌜ p < 64 ⌝ }
-    ensures answers { λ r. ⌜ r ≡ isPlace p ⌝ }
+    requires { p < 64 }
+    ensures answers { result ≡ is_place p }
 {
     p < 44
 }
 
 impl Place {
     pub fn number(self) -> usize
-        ensures { λ r. ⌜ r ≡ self .number ⌝ }
+        ensures { result ≡ self.number }
     {
         self.number
     }
