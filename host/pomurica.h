@@ -29,10 +29,10 @@
  * position independent, for any x86-64 processor.  It defines the thirteen
  * functions and no other name, calls nothing but the C library's memcpy, memmove
  * and memset, and stands behind the objects that use it.  Of a release, and of
- * the project after `rt staticlib console`:
+ * the project after `rt lib --cpu=x86-64` in crates/console:
  *
  *     cc program.c $(pkg-config --cflags --libs pomurica)
- *     cc -I host program.c target/staticlib/libconsole.a
+ *     cc -I host program.c crates/console/out/libconsole.a
  *
  * Outside the proof, and so up to the caller:
  *   - a pointer and its length name memory that is there.  A length of 0 goes

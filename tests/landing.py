@@ -11,7 +11,7 @@ results = []
 # The project before, file by file. Its crate `rules` is called `law` afterwards.
 BEFORE = {
     'crates/state/specs/Place.antt': '''-- Places.
-use Prim.Native.Nat.{ℕ}
+use Rattle.std.specs.Prelude.{ℕ, ◌+◌}
 
 -- of the CPSR
 abbrev pub CPSR : ℕ
@@ -29,15 +29,15 @@ module over (n : ℕ) where
 ''',
     'crates/state/src/place.rt': '''// Places.
 pub fn is_place(p: usize) -> bool
-    requires { ⌜ p < 64 ⌝ }
-    ensures answers { λ r. ⌜ r ≡ isPlace p ⌝ }
+    requires { p < 64 }
+    ensures answers { result ≡ is_place p }
 {
     p < 44
 }
 
 impl Place {
     pub fn number(self) -> usize
-        ensures { λ r. ⌜ r ≡ self .number ⌝ }
+        ensures { result ≡ self.number }
     {
         self.number
     }
@@ -56,6 +56,8 @@ pub falls : (p : ℕ) → p ≡ CPSR → p ≡ 33
 falls p same = same
 ''',
     'crates/rules/proofs/place/is_place/Proof.antt': 'returns = known\n',
+    'crates/rules/proofs/place/is_free/Answers.antt': 'pub returns : goal.returns\nreturns c = refl\n',
+    'crates/rules/proofs/place/is_free/Invariants.antt': 'abbrev pub loop : goal.loop\nloop c = ⊤\n',
     'crates/words/specs/Word.antt': 'abbrev pub WIDTH : ℕ\nWIDTH = 4\n',
 }
 
@@ -70,12 +72,30 @@ AFTER = {
     'crates/law/proofs/Laws.antt': BEFORE['crates/rules/proofs/Laws.antt'].replace('stands p = refl', 'stands p = same').replace(
         'p ≡ 33\n', 'p ≡ 34\n'),
     'crates/law/proofs/place/is_place/Proof.antt': 'returns = known\n-- a comment\n',
+    'crates/law/proofs/place/is_free/Answers.antt': BEFORE['crates/rules/proofs/place/is_free/Answers.antt'],
+    'crates/law/proofs/place/is_free/Invariants.antt': 'abbrev pub loop : goal.loop\nloop c = c.args.p < 44\n',
 }
 
 LOGS = {
     'before.log': 'fn state::is_place: proved\nrt: state proved (15 s)\nrt: rules proved (7 s)\nrt: ok, 2 crates proved\n',
     'after.log': 'rt: state proved (16 s)\nrt: law proved (9 s)\n',
+    # as today's rt has it
+    'state.log': '== state\nfn state::is_place: proved\nlogic=proved functions=3 sum=0\nrt: state proved\n'
+                 '== state: its tests\nlogic=proved functions=8 sum=0\nrt: state: its tests are proved\n',
+    'both.log': '== state\nlogic=proved functions=4 sum=0\nrt: state proved\nrt: words is kept: an earlier run proved it\n'
+                '== broken\nlogic=not-proved\nrt: broken NOT PROVED\n'
+                '== law: its tests\nlogic=proved functions=9 sum=0\n== law\nlogic=proved functions=2 sum=0\nrt: law proved\n',
 }
+
+FUNCTIONS = '''
+## Functions proved
+
+| Crate | Before | After |
+|---|---:|---:|
+| state | 3 | 4 |
+| law |  | 2 |
+| all | 3 | 6 |
+'''
 
 NOTE = '''# No. :
 
@@ -85,7 +105,7 @@ From `OLD` to `NEW`.
 
 ## What moved, and what did not
 
-- new crate `law`: 3 names from `rules`
+- new crate `law`: 4 names from `rules`
 - crate `rules` is gone
 
 | | moved | added | gone | proved anew | stayed |
@@ -93,12 +113,13 @@ From `OLD` to `NEW`.
 | definitions | 2 | 1 | 0 | 0 | 3 |
 | contracts | 1 | 0 | 0 | 0 | 2 |
 | theorems | 1 | 0 | 0 | 1 | 0 |
-| proofs | 0 | 0 | 0 | 0 | 1 |
+| proofs | 1 | 0 | 0 | 0 | 1 |
 
 ### `law`
 
 - theorems moved: Laws (from rules): `falls`
 - theorems proved anew: Laws (from rules): `stands`
+- proofs moved: place (from rules): `is_free`
 
 <details><summary>did not move: 1 proofs</summary>
 
@@ -192,6 +213,8 @@ def main():
     status, note, _ = landing(old, new, '--before', 'before.log', '--after', 'after.log')
     difference = first_difference(note, NOTE.replace('OLD', old).replace('NEW', new))
     expect('the note of two commits', status == 0 and difference is None, difference)
+    status, note, _ = landing(old, new, '--before', 'state.log', '--after', 'both.log')
+    expect('its figures from logs of today', status == 0 and note.endswith('</details>\n' + FUNCTIONS) and 'Seconds' not in note, note)
     status, note, _ = landing(old, old)
     expect('a commit and itself: nothing moved, no seconds', status == 0 and '\n### `' not in note and 'Seconds' not in note,
            note)

@@ -9,7 +9,6 @@ import concurrent.futures
 import contextlib
 import fcntl
 import os
-import platform
 import shutil
 import signal
 import subprocess
@@ -21,6 +20,8 @@ ROOT = os.path.dirname(os.path.dirname(os.path.abspath(__file__)))
 COPIED = ['crates.txt', 'VERSION', 'verdict', 'decisions', 'console', 'record', 'test', 'tools', 'host', 'bench', 'samples/make']
 SCRIPTS = ['verdict', 'decisions', 'console', 'record', 'test', 'tools/look', 'bench/run', 'samples/make']
 TRACE = bytes(192)
+# What is asked of rt for a program and for the archive, and where: both are for any x86-64 processor.
+RUN, LIB = 'rt run --cpu=x86-64 in verdict', 'rt lib --cpu=x86-64 in console'
 
 # hold WHO: where the test holds it, tells that it began and in which process, and waits until it is let go. It does so in the
 # background, as rt's own proofs run, where Ctrl-C is not heard, and with something in the temporary folder, as they have.
@@ -32,29 +33,41 @@ HOLD = '''hold() {
 }
 '''
 
-# The archive is a copy of the crates' one source; the program prints it, and how much it reads. As of the true one, a program
-# whose source did not change is not made again.
+# It stands in the folder of a crate, or at the top for the gate, and writes into the crate's out/. The archive is a copy of the
+# crates' one source; the program prints it, and how much it reads, and is run where it is made, as by the true one.
 RT = '''#!/bin/sh
 set -e
 [ "$1" != doc ] || exec cat "$STATE/guide"
-echo "rt $*" >>"$STATE/calls"
+crate=$(basename "$PWD")
+echo "rt $* in $crate" >>"$STATE/calls"
 mkdir "$STATE/busy" || echo 'two at once' >>"$STATE/calls"
 trap 'rmdir "$STATE/busy"' EXIT
 cat >/dev/null # whatever there is on standard input
-[ ! -e crates/refused ] || { echo refused; exit 1; }
-mkdir -p target/bin target/staticlib target/stamp
-source=$(cat crates/source)
-if [ "$1" = staticlib ]; then
-    echo half >target/staticlib/libconsole.a
+if [ "$1" = ci ]; then
     hold rt
-    echo "$source" >target/staticlib/libconsole.a
-elif [ ! -e target/stamp/verdict ] || [ "$source" != "$(cat target/stamp/verdict)" ]; then
-    echo half >target/bin/verdict
-    hold rt
-    printf '#!/bin/sh\\necho "%s" $(wc -c)\\n' "$source" >target/bin/verdict
-    chmod +x target/bin/verdict
-    echo "$source" >target/stamp/verdict
+    cat "$STATE/verdict"
+    exit "$(cat "$STATE/status")"
 fi
+[ ! -e ../words/src/refused ] || { echo refused; exit 1; }
+source=$(cat ../words/src/source)
+mkdir -p out
+case $1 in
+lib)
+    [ -e src/lib.rt ]
+    echo half >"out/lib$crate.a"
+    hold rt
+    echo "$source" >"out/lib$crate.a"
+    ;;
+run)
+    [ -e src/main.rt ]
+    echo half >"out/$crate"
+    hold rt
+    printf '#!/bin/sh\\necho "%s" $(wc -c)\\n' "$source" >"out/$crate"
+    chmod +x "out/$crate"
+    echo "$source" >"out/$crate.o"
+    "out/$crate" </dev/null
+    ;;
+esac
 '''.replace('set -e\n', 'set -e\n' + HOLD, 1)
 
 # An object is the last line of its source.
@@ -117,20 +130,26 @@ class Place:
             place = self.path(name)
             os.makedirs(os.path.dirname(place), exist_ok=True)
             (shutil.copytree if os.path.isdir(os.path.join(ROOT, name)) else shutil.copy)(os.path.join(ROOT, name), place)
-        self.write('crates/source', 'one\n')
-        self.write('crates/other', '')
+        for name, content in {'words/src/source': 'one\n', 'words/src/other': '', 'words/proofs/other': '', 'console/src/lib.rt': '',
+                              'verdict/src/main.rt': '', 'decisions/src/main.rt': ''}.items():
+            self.write(f'crates/{name}', content)
         self.make_kit()
 
     def make_kit(self):
-        own = os.path.join(self.kit, 'on', platform.machine())
-        guide = self.write(os.path.join(self.kit, 'docs/guide'), '')
+        guide = self.write(os.path.join(self.kit, 'START-HERE.md'), '')
         self.write(os.path.join(self.state, 'guide'), guide + '\n')
+        self.judge('1 passed, 0 failed\n')
         self.write(os.path.join(self.bin, 'rt'), RT, 0o755)
         self.write(os.path.join(self.bin, 'valgrind'), '#!/bin/sh\n', 0o755)
-        self.write(os.path.join(own, 'bin/rattle-link'), LINK, 0o755)
-        self.write(os.path.join(own, 'toolchain/bin/clang'), CLANG, 0o755)
-        self.write(os.path.join(own, 'toolchain/lib/ld-linux-x86-64.so.2'), LOADER, 0o755)
-        self.emulator = os.path.join(own, 'toolchain/bin/qemu-x86_64')  # as on Arm, where a case wants one
+        self.write(os.path.join(self.kit, 'bin/rattle-link'), LINK, 0o755)
+        self.write(os.path.join(self.kit, 'toolchain/bin/clang'), CLANG, 0o755)
+        self.write(os.path.join(self.kit, 'toolchain/lib/ld-linux-x86-64.so.2'), LOADER, 0o755)
+        self.emulator = os.path.join(self.kit, 'toolchain/bin/qemu-x86_64')  # as on Arm, where a case wants one
+
+    def judge(self, verdict, status=0):
+        """What rt ci prints, and how it ends."""
+        self.write(os.path.join(self.state, 'verdict'), verdict)
+        self.write(os.path.join(self.state, 'status'), f'{status}\n')
 
     def path(self, name):
         return os.path.join(self.root, name)
@@ -204,7 +223,7 @@ def try_edits(place):
     place.hold()
     running = place.start('verdict')
     place.wait_for_build()
-    place.write('crates/source', 'two\n')
+    place.write('crates/words/src/source', 'two\n')
     place.release()
     place.expect('the first verdict', place.end(running)[:2], (0, 'one 0\n'))
     marked, began = (os.stat(path).st_mtime for path in (
@@ -212,12 +231,18 @@ def try_edits(place):
     place.expect('what is made counts as a second older than its making, whole seconds or not', began - marked > 0.98, True)
     place.expect('a source edited while it is proved', place.run('verdict'), (0, 'two 0\n'))
     place.expect('is proved again once', (place.run('verdict'), len(place.calls())), ((0, 'two 0\n'), 2))
-    os.remove(place.path('crates/other'))
+    os.remove(place.path('crates/words/src/other'))
     place.expect('a source that is gone', (place.run('verdict'), len(place.calls())), ((0, 'two 0\n'), 3))
-    os.utime(place.write('crates/source', 'three\n'), (0, 0))
+    os.utime(place.write('crates/words/src/source', 'three\n'), (0, 0))
     place.expect('a source of an older date put in its place', place.run('verdict'), (0, 'three 0\n'))
     os.remove(place.path('target/bin/verdict'))
     place.expect('a program that is gone', place.run('verdict'), (0, 'three 0\n'))
+    shutil.rmtree(place.path('crates/words/proofs'))
+    place.expect('a folder of sources that is gone', (place.run('verdict'), len(place.calls())), ((0, 'three 0\n'), 6))
+    place.run('console')
+    place.expect('what rt keeps beside the sources is none', (place.run('verdict'), place.calls()[6:]), ((0, 'three 0\n'), [LIB]))
+    with open(place.path('target/obj/verdict.o'), encoding='utf-8') as file:
+        place.expect('the object, for a release', file.read(), 'three\n')
 
 
 def try_program_edits(place, program):
@@ -232,7 +257,7 @@ def try_program_edits(place, program):
     first = place.end(running)
     place.expect(f'a {program} of every object', (first[0], first[1].split('; ')[0]), (0, objects))
     place.expect(f'a source of the {program} edited while it is built', place.run(program), (0, f'{objects}; new; one; 0\n'))
-    place.expect('is built again, and nothing proved', place.calls(), ['rt staticlib console'])
+    place.expect('is built again, and nothing proved', place.calls(), [LIB])
     made = os.stat(place.path(f'target/host/{program}'))
     place.run(program)
     place.expect('once', os.stat(place.path(f'target/host/{program}')), made)
@@ -272,7 +297,7 @@ def try_output(place):
 
 
 def try_failures(place):
-    refused = place.write('crates/refused', '')
+    refused = place.write('crates/words/src/refused', '')
     for script in ('verdict', 'console', 'record'):
         running = place.start(script)
         out, err = running.communicate(timeout=60)
@@ -318,7 +343,7 @@ def try_two(place, other):
     place.expect(f'./{other} waits for ./verdict', place.told(second, b'something else builds in'), True)
     place.release()
     ends = [place.end(first)[:2], place.end(second)[0]]
-    calls = ['rt check verdict'] + ['rt staticlib console'] * (other != 'verdict')
+    calls = [RUN] + [LIB] * (other != 'verdict')
     place.expect(f'./{other} after ./verdict', (ends, place.calls()), ([(0, 'one 0\n'), 0], calls))
 
 
@@ -361,6 +386,35 @@ def try_beside_test(place):
     place.expect('and ./verdict goes on', place.end(verdict)[:2], (0, 'one 0\n'))
 
 
+def verdicts_of_rt():
+    """What rt ci can say of a project with two must-fail edits, how it ends, and what the gate has to count."""
+    ok, bad = 'rt: ok; handles allowed: none; ', 'rt: must-fail words/two.edit: BAD EDIT: it changes nothing\n'
+    done = '; done in this run: 1 of the 2 proofs (of crates and of their tests) and 0 of the 2 must-fail edits; the others are kept\n'
+    yield 'all is well', f'{ok}must-fail edits: 2 refused{done}3 passed, 0 failed\n', 0, '3 passed, 0 failed'
+    yield 'an edit is refused by a limit', f'{ok}must-fail edits: 2 refused, 1 of them only by a limit{done}3 passed, 0 failed\n', 0, (
+        '3 passed, 0 failed')
+    yield 'an edit is bad', f'{bad}{ok}must-fail edits: 1 refused, 1 bad{done}2 passed, 0 failed\n', 0, '2 passed, 1 failed'
+    yield 'one is bad, and one refused by a limit', (
+        f'{bad}{ok}must-fail edits: 1 refused, 1 of them only by a limit, 1 bad{done}2 passed, 0 failed\n'), 0, '2 passed, 1 failed'
+    yield 'no edit was tried', f'{ok}every proof was done in this run\n1 passed, 0 failed\n', 0, '1 passed, 2 failed'
+    yield 'a crate is not proved', 'rt: FAILED: words\n1 passed, 2 failed\n', 1, '1 passed, 2 failed'
+    yield 'it fails, and counts nothing', f'{ok}must-fail edits: 2 refused{done}3 passed, 0 failed\n', 2, '3 passed, 1 failed'
+    yield 'it does not say that all is well', '3 passed, 0 failed\n', 0, '3 passed, 3 failed'
+    yield 'it ends early', 'rt: words proved\n', 0, '0 passed, 1 failed'
+
+
+def try_prove(place):
+    """The stage of ./test that proves: rt ci, and what the gate asks beyond it."""
+    for name in ('one.edit', 'two.edit', 'README.md'):
+        place.write(f'crates/words/must-fail/{name}', '')
+    for what, verdict, status, due in verdicts_of_rt():
+        place.judge(verdict, status)
+        ended, out = place.run(place.path('tools/prove'), cwd='/')
+        place.expect(f'tools/prove where {what}', (ended, out[:len(verdict)], out.splitlines()[-1]),
+                     (0 if due.endswith(' 0 failed') else 1, verdict, due))
+    place.expect('a plain rt ci at the top each time', {*place.calls()}, {'rt ci in the project'})
+
+
 def broken_kits(place):
     """Kits that do not work, by how, and what is told of them."""
     rt = os.path.join(place.bin, 'rt')
@@ -372,7 +426,10 @@ def broken_kits(place):
         place.write(rt, text, 0o755)
         yield f'an rt that {how}', {}, f"the Rattle kit's rt on the path {words}"
     place.write(rt, RT, 0o755)
-    shutil.rmtree(os.path.join(place.kit, 'on'))
+    arm = place.write(os.path.join(place.bin, 'uname'), '#!/bin/sh\necho aarch64\n', 0o755)
+    yield 'a kit for x86-64 on another machine', {}, f'the Rattle kit at {place.kit} has nothing for this machine, aarch64'
+    os.remove(arm)
+    shutil.rmtree(os.path.join(place.kit, 'toolchain'))
     yield 'a kit for another machine', {}, f'the Rattle kit at {place.kit} has nothing for this machine'
     os.remove(rt)
     for name in ('dirname', 'sh'):
@@ -393,7 +450,8 @@ CASES = [
     *((try_signal, script, number) for script in ('verdict', 'console', 'record', 'test', 'bench/run')
       for number in (signal.SIGINT, signal.SIGTERM, signal.SIGHUP)),
     *((try_signal, script, signal.SIGINT, True) for script in ('verdict', 'console', 'record', 'test', 'bench/run')),
-    (try_two, 'verdict'), (try_two, 'console'), (try_two, 'record'), (try_under_lock,), (try_killed,), (try_beside_test,), (try_kits,)]
+    (try_two, 'verdict'), (try_two, 'console'), (try_two, 'record'), (try_under_lock,), (try_killed,), (try_beside_test,), (try_prove,),
+    (try_kits,)]
 
 
 def outcome_of(case):

@@ -1,7 +1,7 @@
 # How to prove, compile, link and run, on either kind of processor. Sourced by the scripts, which set $root.
 #
-# The archive is x86-64 code. The kit brings a compiler, a linker and a C library for it and, on Arm, an emulator. It has no
-# C headers: they come from the machine's packages. What is missing is installed, by package name, when it is first needed.
+# The archive is x86-64 code. The kit brings a compiler, a linker and a C library for it and, where it is one for Arm, an emulator.
+# It has no C headers: they come from the machine's packages. What is missing is installed, by package name, when it is first needed.
 # shellcheck shell=sh disable=SC2154
 
 . "$root/tools/tell.sh"
@@ -9,10 +9,13 @@
 command -v rt >/dev/null || give_up "the Rattle kit's rt is not on the path"
 guide=$(rt doc </dev/null) || give_up "the Rattle kit's rt on the path does not work"
 [ -f "$guide" ] || give_up "the Rattle kit's rt on the path names no guide (rt doc), so its kit cannot be found"
-kit=$(dirname -- "$(dirname -- "$guide")")
-own=$kit/on/$(uname -m)
-[ -d "$own" ] || give_up "the Rattle kit at $kit has nothing for this machine, $(uname -m)"
-tools=$own/toolchain
+kit=$(dirname -- "$guide")
+tools=$kit/toolchain
+emulator=
+[ ! -x "$tools/bin/qemu-x86_64" ] || emulator=$tools/bin/qemu-x86_64
+# The kit's own programs are x86-64 too, but in one that has an emulator.
+{ [ -d "$tools" ] && { [ -n "$emulator" ] || [ "$(uname -m)" = x86_64 ]; }; } ||
+    give_up "the Rattle kit at $kit has nothing for this machine, $(uname -m)"
 target=x86_64-unknown-linux-gnu
 archive=$root/target/staticlib/libconsole.a
 verdict=$root/target/bin/verdict
@@ -30,9 +33,6 @@ console_sources="host/console.c host/list.c host/judge.c host/arrival.c host/tot
 console_sources="$console_sources host/instructions.c host/log.c $reading_sources $printing_sources $telling_sources"
 record_sources="host/recorder.c host/script.c host/token.c host/vocabulary.c"
 record_sources="$record_sources $reading_sources $printing_sources $wording_sources"
-
-emulator=
-[ ! -x "$tools/bin/qemu-x86_64" ] || emulator=$tools/bin/qemu-x86_64
 
 # What everything is compiled with, by whichever compiler.
 strict='-std=c11 -Wall -Wextra -Wconversion -Wshadow -Werror'
@@ -110,7 +110,7 @@ build() {
         set -- "$@" "$object" # in the place of its source
         shift
     done
-    linked=$("$own/bin/rattle-link" --target $target --toolchain "$tools" -o "$built/$program.new" "$@" "$archive" 2>&1) ||
+    linked=$("$kit/bin/rattle-link" --target $target --toolchain "$tools" -o "$built/$program.new" "$@" "$archive" 2>&1) ||
         { say "$linked"; return 1; }
     mv "$built/$program.new" "$built/$program"
 }
@@ -149,12 +149,21 @@ about() {
     esac
 }
 
-archive_anew() { rt staticlib console; }
+# by_rt CRATE COMMAND: rt's command in the folder of a crate; what it makes is in out/ there. For any x86-64 processor, as
+# host/pomurica.h says: rt's own choice is a later one.
+by_rt() (
+    cd "crates/$1" && exec rt "$2" --cpu=x86-64 </dev/null
+)
 
-# rt links a program where it proves it, and knows by its own stamp that it did: which says nothing if the program is gone.
+# take FILE PRODUCT: what rt made, to where it is looked for; in one move, so that it is there whole or not at all.
+take() { mkdir -p "$(dirname -- "$2")" && cp -- "$1" "$2.new" && mv -- "$2.new" "$2"; }
+
+archive_anew() { by_rt console lib && take crates/console/out/libconsole.a "$archive"; }
+
+# rt proves and links a program, and runs it, here on no input. The object is for ./release, which links it in its own way.
 program_anew() {
-    [ -e "target/bin/$1" ] || rm -f "target/stamp/$1"
-    rt check "$1"
+    made=crates/$1/out/$1
+    by_rt "$1" run && take "$made.o" "target/obj/$1.o" && take "$made" "target/bin/$1"
 }
 
 verdict_anew() { program_anew verdict; }
@@ -167,21 +176,31 @@ console_anew() { make archive && build console $console_sources; }
 # shellcheck disable=SC2086 # a list of words
 record_anew() { make archive && build record $record_sources; }
 
+# in_sources EXPRESSION...: find, among the files and folders of $sources. What rt keeps in a crate's out/ is no source, and a
+# crate's own folder changes with that one; its files are watched by their names, as below.
+in_sources() {
+    # shellcheck disable=SC2086 # a list of words
+    find $sources -type d -regex 'crates/[^/]*/out' -prune -o ! \( -type d -regex 'crates/[^/]*' \) "$@"
+}
+
+source_names() { in_sources ! -type d -print | LC_ALL=C sort; }
+
 # is_fresh NAME: whether it was made, and no source changed since its making began. By the time at which a file's status
-# changed, folders too: so a file that is gone counts, and an older one that is put in its place.
+# changed, folders too, and by the names that the mark has: so a file that is gone counts, and an older one that is put in its
+# place.
 is_fresh() (
     about "$1"
-    # shellcheck disable=SC2086 # a list of words
-    [ -e "$product" ] && [ -e "$product.made" ] && cd "$root" &&
-        changed=$(find $sources -cnewer "$product.made" -print -quit) && [ -z "$changed" ]
+    [ -e "$product" ] && [ -e "$product.made" ] && cd "$root" && source_names | cmp -s - "$product.made" &&
+        changed=$(in_sources -cnewer "$product.made" -print -quit) && [ -z "$changed" ]
 )
 
-# remake NAME: makes it, with a mark beside it that is as old as the beginning, so that a source which is edited meanwhile
-# counts as changed. The second between is for a file system that keeps times in whole seconds.
+# remake NAME: makes it, with a mark beside it that has the names of the sources and is as old as the beginning, so that a source
+# which is edited meanwhile counts as changed. The second between is for a file system that keeps times in whole seconds.
 remake() (
     about "$1"
-    mkdir -p "$(dirname -- "$product")" && rm -f "$product.made" && touch "$product.making" && sleep 1 || exit
-    cd "$root" && "$1_anew" || exit
+    cd "$root" || exit
+    mkdir -p "$(dirname -- "$product")" && rm -f "$product.made" && source_names >"$product.making" && sleep 1 || exit
+    "$1_anew" || exit
     [ -e "$product" ] || give_up "no $product was made"
     mv "$product.making" "$product.made"
 )

@@ -16,7 +16,7 @@ HOMES = {'.rt': ('src',), '.antt': ('specs', 'proofs'), '.edit': ('must-fail',)}
 def listed_crates():
     with open('crates.txt', encoding='utf-8') as file:
         lines = (line.split('#')[0] for line in file)
-        return {line.split(':')[0].strip() for line in lines if line.strip()}
+        return {line.split(':')[0].split()[0] for line in lines if line.strip()}  # behind its name may stand what it is
 
 
 def crate_faults(listed):
@@ -29,6 +29,8 @@ def project_files():
     for folder, folders, files in os.walk('.'):
         if folder == '.':
             folders[:] = [name for name in folders if name not in ('.git', 'target')]
+        if os.path.dirname(folder) == os.path.join('.', 'crates'):
+            folders[:] = [name for name in folders if name != 'out']  # rt's own
         yield from (os.path.relpath(os.path.join(folder, name)) for name in files)
 
 

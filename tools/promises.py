@@ -9,9 +9,10 @@ import re
 import sys
 
 TOTAL_CRATES = {'machine', 'trace', 'session', 'console'}
-PUBLIC = re.compile(r'\bpub\s+(?P<exported>extern\s+"C"\s+)?fn\s+(?P<name>\w+)')
-CLAUSES_OR_BODY = re.compile(r'\b(?:requires|ensures)\b|\{')
-CLAUSE = re.compile(r'\s*(requires|ensures)(?:\s+[\w-]+)?\s*\{')
+PUBLIC = re.compile(r'\bpub\s+(?:(?:const|unsafe)\s+)*(?P<exported>extern\s+"C"\s+)?fn\s+(?P<name>\w+)')
+CLAUSES_OR_BODY = re.compile(r'\b(?:ghost|requires|ensures)\b|\{')
+# A clause may have a name, and a star where it is of memory; a ghost value stands before the others, behind its name and a colon.
+CLAUSE = re.compile(r'\s*(ghost|requires|ensures)\*?(?:\s+[^\s{]+)?\s*\{')
 
 
 def behind_braces(text, at):

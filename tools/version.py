@@ -35,7 +35,7 @@ def claims(version):
     yield 'host/pomurica.h, POMURICA_VERSION', found('host/pomurica.h', r'^#define POMURICA_VERSION "(.*)"$'), [version]
     yield 'host/pomurica.h, POMURICA_EDITION', found('host/pomurica.h', r'^#define POMURICA_EDITION UINT32_C\((\w+)\)$'), [edition]
     yield f'{EDITION}, its definitions', numbers_after(
-        f'{EDITION}/specs/Edition.antt', r'^{} = (\d+)$', ('document', 'lastRequest', 'release')), each
+        f'{EDITION}/specs/Edition.antt', r'^{} = (\d+)$', ('document', 'last_request', 'release')), each
     yield f'{EDITION}, its code', numbers_after(
         f'{EDITION}/src/lib.rt', r'^const {}: u32 = (\d+);$', ('DOCUMENT', 'LAST_REQUEST', 'RELEASE')), each
     headings = found('CHANGELOG.md', r'^## (\S+)')
