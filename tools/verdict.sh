@@ -1,7 +1,7 @@
 # verdict [FILE]: judges the trace in FILE, or on standard input (also `-`), as it comes and of any length; at the end of the
 # input it prints number, place and Steps. verdict --version: the version.
 # Exit status 0 where a verdict was printed, whatever it says; 2 on usage, and where something could not be built, read or
-# written. The program itself has no status to give, and does not see a write that fails: so its line is taken here.
+# written. The program itself ends with 0 where it could not read, and with 1 where it could not write: so its line is taken here.
 #
 # What ./verdict and the verdict of a release share. A script that sources it, behind tell.sh, has two functions: `ready`, before
 # the program is first needed, and `start_program`.

@@ -16,6 +16,7 @@ use state::state::fault_of;
 use state::{number, place};
 use words::{get_word, put_word};
 
+#[tactic(auto, using(crate::proofs::Access::mode_number))]
 pub fn banked_read(block: &mut [u8], cpsr: u32, scr: u32, a: u32, b: u32, buffer: &mut [u8]) -> u32
     requires { Ready block.old buffer.old cpsr scr }
     ensures { Carried block.old (action block.old (record { code = BANKED_READ; a = a; b = b })) result
@@ -43,6 +44,7 @@ fn put_unless(block: &mut [u8], p: usize, w: u32, n: u32, buffer: &mut [u8]) -> 
     done(buffer, Verdict::Written(w))
 }
 
+#[tactic(auto, using(crate::proofs::Access::mode_number))]
 pub fn banked_write(block: &mut [u8], cpsr: u32, scr: u32, a: u32, b: u32, buffer: &mut [u8]) -> u32
     requires { Ready block.old buffer.old cpsr scr }
     ensures { Carried block.old (action block.old (record { code = BANKED_WRITE; a = a; b = b })) result

@@ -13,7 +13,8 @@ use Rattle.state.specs.Mode.{USER, MONITOR, HYP, modes, known}
 use Rattle.state.specs.Number.{DONE, NO_RIGHT, OWN_REGISTER}
 use Rattle.state.specs.Place.{CPSR, ELR_hyp}
 use Rattle.state.specs.State.{secure}
-use Rattle.state.proofs.Test.{true_is_not_false, same, same_eq, implies, implied, every_bit, at_bit, every_below, at_below, every_of, at_one}
+use Rattle.state.proofs.Test.{true_is_not_false, same, same_eq, implies, implied, every_bit, at_bit, every_below}
+use Rattle.state.proofs.Test.{at_below, every_of, at_one}
 use Rattle.banked.specs.Claims.{right_formerly, not_accessible}
 use Rattle.banked.specs.Right.{current, denied, own, reason, right}
 

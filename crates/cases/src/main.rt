@@ -3,7 +3,7 @@
 #![tactic(auto)]
 
 ghost use Rattle.std.specs.Prelude.{◌≤◌, ◌<◌};
-ghost use Rattle.state.specs.Place.{PLACES};
+ghost use Rattle.state.specs.Place.{PLACES as places};
 
 use rules::event::Event;
 use rules::verdict::Answer;
@@ -64,7 +64,7 @@ fn say_word(rt: &impl Print, w: u32) -> io::Result<()> {
 
 // A register by name and its word after the step.
 fn say_register(rt: &impl Print, name: &[u8], block: &[u8; BLOCK_SIZE], p: usize) -> io::Result<()>
-    requires { p < PLACES }
+    requires { p < places }
 {
     say(rt, b", ")?;
     say(rt, name)?;
@@ -85,13 +85,13 @@ fn say_number(rt: &impl Print, n: u32) -> io::Result<()> {
 
 // A word at a place of a whole block, and one put there.
 fn get(block: &[u8; BLOCK_SIZE], p: usize) -> u32
-    requires { p < PLACES }
+    requires { p < places }
 {
     get_word(block, p)
 }
 
 fn put(block: &mut [u8; BLOCK_SIZE], p: usize, w: u32)
-    requires { p < PLACES }
+    requires { p < places }
 {
     put_word(block, p, w);
 }

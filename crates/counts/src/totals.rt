@@ -1,7 +1,7 @@
 // The counts of all traces so far, and what one more adds to them.
 ghost use Rattle.std.specs.Prelude.{◌≡◌, true, ◌↔◌, ◌+◌, length};
 ghost use Rattle.words.specs.Word.{word};
-ghost use Rattle.counts.specs.Counts.{WORDS, COUNTS_SIZE, spell_words};
+ghost use Rattle.counts.specs.Counts.{WORDS as all_words, COUNTS_SIZE, spell_words};
 ghost use Rattle.counts.specs.Parts.{Fits};
 
 use crate::places::WORDS;
@@ -28,7 +28,7 @@ pub(crate) fn add(counts: &mut [u8], gains: &[u8])
     requires { (length counts.old ≡ COUNTS_SIZE) × (length gains.now ≡ COUNTS_SIZE)
         × Fits counts.old gains.now }
     ensures { counts.new
-        ≡ spell_words WORDS 0 (λ w. word counts.old w + word gains.now w) }
+        ≡ spell_words all_words 0 (λ w. word counts.old w + word gains.now w) }
 {
     let mut place = 0;
     while place < WORDS {

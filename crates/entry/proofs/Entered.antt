@@ -1,5 +1,6 @@
 -- What an entry leaves, read back word by word: once, over the target. "No other word changes."
-use Rattle.std.proofs.Common.{◌≡◌, ℕ, ◌+◌, ◌*◌, ◌/◌, ◌%◌, ◌^◌, ◌<◌, Bool, true, false, not, ◌||◌, eqb, ltb, List, length, sym, refl, ◌∙◌, arith, lit<, ltb-true, eqb-true}
+use Rattle.std.proofs.Common.{◌≡◌, ℕ, ◌+◌, ◌*◌, ◌/◌, ◌%◌, ◌^◌, ◌<◌, Bool, true, false, not, ◌||◌, eqb, ltb, List}
+use Rattle.std.proofs.Common.{length, sym, refl, ◌∙◌, arith, lit<, ltb-true, eqb-true}
 use borrow.Author.Tests.{eqb-false, not-true}
 use Rattle.words.specs.Word.{word, put}
 use Rattle.words.proofs.Laws.{length-put, word-put_same, word-put_other}

@@ -1,6 +1,7 @@
 -- Where a synchronous event goes, a good state stays good: one test over the modes, the codes and the bits. And an entry
 -- to a mode that may stand where it goes leaves a good block: once, over the target.
-use Rattle.std.proofs.Common.{◌≡◌, ℕ, ◌*◌, ◌/◌, ◌%◌, ◌^◌, ◌<◌, Bool, true, false, not, ◌&&◌, ◌||◌, List, length, sym, refl, ap, ◌∙◌, arith, eq-eqb, ne_eqb, if◌then◌else◌}
+use Rattle.std.proofs.Common.{◌≡◌, ℕ, ◌*◌, ◌/◌, ◌%◌, ◌^◌, ◌<◌, Bool, true, false, not, ◌&&◌, ◌||◌, List, length, sym}
+use Rattle.std.proofs.Common.{refl, ap, ◌∙◌, arith, eq-eqb, ne_eqb, if◌then◌else◌}
 use mathlib.Core.Bool.{and-true, and-false}
 use Rattle.words.specs.Word.{word, put, Bytes}
 use Rattle.words.proofs.Laws.{length-put, word-put_same, word-put_other, spelt_fits}
@@ -68,7 +69,8 @@ module _ (P : ℕ → ℕ → Bool → Bool → Bool) where
 
   abbrev everywhere : ℕ → ℕ → Bool
   everywhere m code =
-      every_bit (λ ns. every_bit (λ ea. every_bit (λ tsc. every_bit (λ tge. every_bit (λ ext. every_bit (goes_to m code ns ea tsc tge ext))))))
+      every_bit (λ ns. every_bit (λ ea. every_bit (λ tsc. every_bit (λ tge.
+      every_bit (λ ext. every_bit (goes_to m code ns ea tsc tge ext))))))
 
   abbrev pub every_event : Bool
   every_event = every_of modes (λ m. every_of synchronous_codes (everywhere m))
@@ -93,7 +95,8 @@ module _ (P : ℕ → ℕ → Bool → Bool → Bool) where
       (at_bit (λ tge. every_bit (λ ext. every_bit (goes_to m code ns ea tsc tge ext)))
       (at_bit (λ tsc. every_bit (λ tge. every_bit (λ ext. every_bit (goes_to m code ns ea tsc tge ext))))
       (at_bit (λ ea. every_bit (λ tsc. every_bit (λ tge. every_bit (λ ext. every_bit (goes_to m code ns ea tsc tge ext)))))
-      (at_bit (λ ns. every_bit (λ ea. every_bit (λ tsc. every_bit (λ tge. every_bit (λ ext. every_bit (goes_to m code ns ea tsc tge ext)))))) at
+      (at_bit (λ ns. every_bit (λ ea. every_bit (λ tsc. every_bit (λ tge.
+      every_bit (λ ext. every_bit (goes_to m code ns ea tsc tge ext)))))) at
       ns) ea) tsc) tge) ext) two in
       let h : not (not_here_b code m ns two) ≡ true = ap not (sym (here_bits code a cpsr scr) ∙ n) in
       rw (target_bits code a cpsr scr hcr)

@@ -41,7 +41,8 @@ use Rattle.returns.proofs.After.{word_good, word_fits}
 use Rattle.rules.specs.Event.{RETURN}
 use Rattle.rules.specs.declared.event.Event.{Event}
 use Rattle.rules.specs.Refusal.{unknown_mode, not_good, refusal}
-use Rattle.rules.specs.Step.{taken_by, routed_in, event_way, interrupt_way, checked_in, returned, done_action, va_cleared, block_after, after}
+use Rattle.rules.specs.Step.{taken_by, routed_in, event_way, interrupt_way, checked_in, returned, done_action}
+use Rattle.rules.specs.Step.{va_cleared, block_after, after}
 use Rattle.rules.proofs.Carrying.{va_cases}
 use Rattle.rules.proofs.Deciding.{known_code, by_code}
 use Rattle.rules.proofs.Rows.{Passed, passed}

@@ -12,7 +12,6 @@ pub mod Checking
 pub mod Tabled
 pub mod Goodness
 pub mod Entering
-pub mod Walk
 pub mod Theorems
 pub mod Cases
 pub mod Differing

@@ -36,6 +36,7 @@ use words::get_word;
 pub const ANSWER_SIZE: usize = 8;
 
 // A direct step: one event on a block, over a lent answer buffer; the number is returned too. On BAD_SIZE neither changes.
+#[tactic(auto, using(crate::proofs::Stepping::ready))]
 pub fn step(block: &mut [u8], code: u32, a: u32, b: u32, buffer: &mut [u8]) -> u32
     ensures number { result ≡ number_returned block.old (direct (record { code = code; a = a; b = b })) buffer.old }
     ensures leaves { block.new
@@ -76,11 +77,13 @@ pub fn step(block: &mut [u8], code: u32, a: u32, b: u32, buffer: &mut [u8]) -> u
 }
 
 // The machine's step, of any event, for who goes over a trace again; its value is a word.
+#[tactic(auto, using(crate::proofs::Stepping::ready))]
 pub fn replay(block: &mut [u8], code: u32, a: u32, b: u32, buffer: &mut [u8]) -> u32
     ensures number { result ≡ number_returned block.old (record { code = code; a = a; b = b }) buffer.old }
     ensures leaves { block.new ≡ block_left block.old (record { code = code; a = a; b = b }) buffer.old }
     ensures answers { buffer.new ≡ answer_left block.old (record { code = code; a = a; b = b }) buffer.old }
-    ensures fits { length block.old ≡ BLOCK_SIZE → length buffer.old ≡ answer_size → (answer block.old (record { code = code; a = a; b = b })).value < 2 ^ 32 }
+    ensures fits { length block.old ≡ BLOCK_SIZE → length buffer.old ≡ answer_size
+        → (answer block.old (record { code = code; a = a; b = b })).value < 2 ^ 32 }
 {
     if block.len() != place::BLOCK_SIZE {
         return number::BAD_SIZE;
@@ -128,6 +131,7 @@ pub fn step_event(block: &mut [u8], e: Event) -> Answer
 }
 
 // A step of `advance`, on buffers that have their sizes.
+#[tactic(auto, using(crate::proofs::Stepping::ready))]
 fn advance_sized(block: &mut [u8], code: u32, a: u32, b: u32, buffer: &mut [u8]) -> u32
     requires { (length block.old ≡ BLOCK_SIZE) × (length buffer.old ≡ answer_size) }
     ensures { Carried block.old (action block.old (record { code = code; a = a; b = b })) result block.new buffer.new }

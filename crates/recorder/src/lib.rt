@@ -139,7 +139,8 @@ fn put_end(part: &mut [u8], count: u32)
 // The checks, and where they are passed the Start, from the offset on.
 pub fn begin(block: &[u8], events: usize, buffer: &mut [u8], offset: usize) -> u32
     ensures number { result ≡ record_number new_layout (length block.now) events (length buffer.old) offset }
-    ensures buffer { buffer.new ≡ (if result is DONE then written_at buffer.old offset (start_record new_layout events block.now) else buffer.old) }
+    ensures buffer { buffer.new
+        ≡ (if result is DONE then written_at buffer.old offset (start_record new_layout events block.now) else buffer.old) }
 {
     let number = number_of(block.len(), events, buffer.len(), offset);
     if number == number::DONE {

@@ -208,7 +208,8 @@ steps_leave : (places : ℕ → Type 0) (s t : List ℕ) → ((i : ℕ) → i < 
 unfolding half
 steps_leave places s t behind c =
     let kind : half t kind_at ≡ half s kind_at =
-    (λ i. sym (c.same kind_at (behind kind_at (omega arith))) i + 256 * sym (c.same (kind_at + 1) (behind (kind_at + 1) (omega arith))) i) in
+    (λ i. sym (c.same kind_at (behind kind_at (omega arith))) i
+    + 256 * sym (c.same (kind_at + 1) (behind (kind_at + 1) (omega arith))) i) in
     old_by t s (ap (leb head_size) (sym c.size)) kind
 
 unread : (old : Bool) (f : List ℕ → Report) (places : List ℕ → ℕ → Type 0)

@@ -224,7 +224,8 @@ module _ (s r : List ℕ) where
           -- the layout is that of the Start which the bytes go on with
           found : comes_old (arrived s).progress (arrived s).unfinished r ≡ is_old (s ++ r)
           found =
-              ap (λ (u : Session). comes_old u.progress (u.unfinished ++ drop (step_size (layout (is_old s))) (nothing_held new_layout)) r) e
+              ap (λ (u : Session).
+              comes_old u.progress (u.unfinished ++ drop (step_size (layout (is_old s))) (nothing_held new_layout)) r) e
               ∙ ap (λ l. is_old (l ++ r)) (held_all (is_old s) s l)
 
           by_head : (length s < head_size) ⊎ (head_size ≤ length s) → fed_session (arrived s) r ≡ arrived (s ++ r)
@@ -304,7 +305,8 @@ answers s = ap (λ (u : Session). feed_number u.progress) (one_run s) ∙ (arriv
 
 -- of the front of a string, in the layout of the whole
 front : (s : List ℕ) (j : ℕ)
-    → feed_number (fed_session opened_session (take j s)).progress ≡ feed_number (fed (layout_of s) (opened (layout_of s)) (take j s)).progress
+    → feed_number (fed_session opened_session (take j s)).progress
+    ≡ feed_number (fed (layout_of s) (opened (layout_of s)) (take j s)).progress
 front s j =
     answers (take j s)
     ∙ ap (λ (v : Report). known_number v.number) (eithers.cut_same s j)

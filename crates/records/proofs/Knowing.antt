@@ -272,7 +272,8 @@ module _ (L : Layout) (LL : Lawful L) where
           → (fed L (past L LL n k b) (take j (drop end_size r))).progress.fault
           ≡ (if leb (place_of L k + end_size + 1) (place_of L k + end_size + j) then TRAILING else 0)
       first zero l =
-          sym (ap (λ (t : Bool). if t then TRAILING else 0) (lt-leb (place_of L k + end_size + 1) (place_of L k + end_size + 0) (omega arith)))
+          sym (ap (λ (t : Bool). if t then TRAILING else 0)
+          (lt-leb (place_of L k + end_size + 1) (place_of L k + end_size + 0) (omega arith)))
       first (suc j) l =
           ap (λ (t : Session). t.progress.fault)
           (fed_over L (past L LL n k b) refl refl (take (suc j) (drop end_size r))

@@ -14,7 +14,8 @@ use Rattle.rules.specs.declared.event.Event.{Event}
 use Rattle.rules.specs.declared.verdict.Answer.{Answer}
 use Rattle.rules.specs.Run.{run_by}
 use Rattle.records.specs.Layout.{Layout, Lawful, start_size, step_size, end_size, end_kind, place_of}
-use Rattle.records.specs.Layout.{head_size, length_at, kind_at, count_at, start_block_at, code_at, a_at, b_at, number_at, value_at, block_after_at}
+use Rattle.records.specs.Layout.{head_size, length_at, kind_at, count_at, start_block_at, code_at, a_at, b_at}
+use Rattle.records.specs.Layout.{number_at, value_at, block_after_at}
 use Rattle.records.specs.Published.{IsEvent, IsAnswer, head, start_record, end_record, step_showing, step_record, step_records}
 use Rattle.records.specs.Published.{run, published}
 use Rattle.records.specs.Report.{head_number, event_of}

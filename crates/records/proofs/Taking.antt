@@ -73,7 +73,11 @@ module _ (L : Layout) where
     seen_before h =
         let l = due_least L s.progress in
         quiet L x s t (omega (arith, stop_low L s.progress (omega arith)))
-        ∙ sym (simp (lt-leb head_size at (omega arith), lt-ltb (at + length x) head_size h, ne_eqb (at + length x) size' (λ e. omega arith)))
+        ∙ sym (simp (
+          lt-leb head_size at (omega arith),
+          lt-ltb (at + length x) head_size h,
+          ne_eqb (at + length x) size' (λ e. omega arith),
+        ))
 
     -- the head's last byte is among them
     module _ (h : at < head_size) (k : head_size ≤ at + length x) where

@@ -1,11 +1,13 @@
 -- Words for what the theorems say of a report: what stands before its place, how far the string was judged, what a cut and
 -- a changed trace are, what it is to be a checker, and the wrong checkers that the paper names.
-use Rattle.std.specs.Prelude.{◌≡◌, ◌⊎◌, ◌↔◌, List, [], ◌∷◌, ◌++◌, ℕ, zero, suc, ◌+◌, ◌<◌, ◌≤◌, length, take, drop, get_or, eqb, ltb, if◌then◌else◌}
+use Rattle.std.specs.Prelude.{◌≡◌, ◌⊎◌, ◌↔◌, List, [], ◌∷◌, ◌++◌, ℕ, zero, suc, ◌+◌, ◌<◌, ◌≤◌, length, take, drop}
+use Rattle.std.specs.Prelude.{get_or, eqb, ltb, if◌then◌else◌}
 use Rattle.words.specs.Word.{spelt, Bytes}
 use Rattle.rules.specs.declared.event.Event.{Event}
 use Rattle.rules.specs.declared.verdict.Answer.{Answer}
 use Rattle.records.specs.declared.report.Report.{Report}
-use Rattle.records.specs.Layout.{Layout, head_size, start_size, step_size, end_size, most_steps, place_of, count_at, start_block_at}
+use Rattle.records.specs.Layout.{Layout, head_size, start_size, step_size, end_size, most_steps, place_of, count_at}
+use Rattle.records.specs.Layout.{start_block_at}
 use Rattle.records.specs.Published.{AreEvents, start_record, end_record, step_showing, step_records, run, Published}
 use Rattle.records.specs.Report.{event_of, report, ACCEPTED, SHORT, BAD_RECORD, BAD_COUNT, WRONG_STEP, TRAILING}
 

@@ -3,14 +3,16 @@
 -- A byte is held until its record is whole. The fourth one shows whether the record is the one due, the last one whether it is
 -- right. A right record is forgotten, but for the block that it leaves; once a fault is known nothing is kept but the numbers.
 -- All that is said here is said of any session, also of one that no opening and no feeding made.
-use Rattle.std.specs.Prelude.{Bool, not, ◌&&◌, List, [], ◌∷◌, ◌++◌, ℕ, zero, suc, ◌+◌, ◌%◌, ◌^◌, length, take, drop, replicate, leb, ltb, if◌then◌else◌}
+use Rattle.std.specs.Prelude.{Bool, not, ◌&&◌, List, [], ◌∷◌, ◌++◌, ℕ, zero, suc, ◌+◌, ◌%◌, ◌^◌, length, take, drop}
+use Rattle.std.specs.Prelude.{replicate, leb, ltb, if◌then◌else◌}
 use Rattle.std.proofs.lemmas.List.Edits.{sets}
 use Rattle.words.specs.Word.{spelt}
 use Rattle.state.specs.Choice.{◌is◌}
 use Rattle.records.specs.declared.report.Report.{Report}
 use Rattle.records.specs.declared.session.Progress.{Progress}
 use Rattle.records.specs.declared.session.Session.{Session}
-use Rattle.records.specs.Layout.{Layout, layout, new_layout, head_size, start_size, step_size, end_size, end_kind, count_at, start_block_at}
+use Rattle.records.specs.Layout.{Layout, layout, new_layout, head_size, start_size, step_size, end_size, end_kind}
+use Rattle.records.specs.Layout.{count_at, start_block_at}
 use Rattle.records.specs.Layout.{is_old}
 pub use Rattle.records.specs.Layout.{AT_START, OVER}
 use Rattle.records.specs.Report.{unless, ◌else◌, head_number, start_number, step_number, end_number, event_of, SHORT, TRAILING}

@@ -1,6 +1,7 @@
 -- What a return leaves in CPSR: a legal one the saved word, whose mode may stand there, an illegal one the mode as it was. So a
 -- good block stays good, the Exception level never rises, and Non-secure state is never left.
-use Rattle.std.proofs.Common.{◌≡◌, ℕ, ◌/◌, ◌%◌, ◌^◌, ◌<◌, ◌≤◌, Bool, true, false, not, ◌&&◌, ◌||◌, ltb, ◌↔◌, sym, refl, ap, ◌∙◌, arith, lit<, ltb-false, ltb-true, eq-eqb, if◌then◌else◌}
+use Rattle.std.proofs.Common.{◌≡◌, ℕ, ◌/◌, ◌%◌, ◌^◌, ◌<◌, ◌≤◌, Bool, true, false, not, ◌&&◌, ◌||◌, ltb, ◌↔◌, sym, refl}
+use Rattle.std.proofs.Common.{ap, ◌∙◌, arith, lit<, ltb-false, ltb-true, eq-eqb, if◌then◌else◌}
 use borrow.Author.Tests.{not-true, not-false}
 use Rattle.state.specs.Choice.{◌is◌}
 use Rattle.state.specs.Field.{bit, bits, mode_field, CPSR_T, SCR_NS, HCR_TGE}

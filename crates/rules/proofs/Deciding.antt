@@ -262,7 +262,8 @@ module _ (b : List ℕ) (a w : ℕ) (size : length b ≡ BLOCK_SIZE) (good : fau
       none : (n : ℕ) → is_synchronous n ≡ false → (code is n) ≡ false
       none = other code y
 
-      here : synchronous.not_here code (routed_in b code a) (word b CPSR) (word b SCR) ≡ synchronous.not_here code a (word b CPSR) (word b SCR)
+      here : synchronous.not_here code (routed_in b code a) (word b CPSR) (word b SCR)
+          ≡ synchronous.not_here code a (word b CPSR) (word b SCR)
       here = here_routed code a (word b CPSR) (word b SCR) (word b HDCR)
 
       by : (t d : Bool) → synchronous.not_here code a (word b CPSR) (word b SCR) ≡ t

@@ -2,7 +2,8 @@
 // any other the bytes are held until it is whole.
 #![tactic(auto)]
 
-ghost use Rattle.std.specs.Prelude.{◌≡◌, ◌+◌, ◌*◌, ◌<◌, ◌≤◌, false, not, ◌&&◌, leb, ◌++◌, length, take, replicate, nat_le, slice_index, if◌then◌else◌};
+ghost use Rattle.std.specs.Prelude.{◌≡◌, ◌+◌, ◌*◌, ◌<◌, ◌≤◌, false, not, ◌&&◌, leb, ◌++◌, length, take, replicate};
+ghost use Rattle.std.specs.Prelude.{nat_le, slice_index, if◌then◌else◌};
 ghost use Rattle.std.proofs.lemmas.List.Edits.{sets};
 ghost use Rattle.state.specs.Choice.{◌is◌};
 ghost use Rattle.records.specs.Layout.{layout, step_size, most_steps, start_block_at, is_old};

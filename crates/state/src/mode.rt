@@ -99,6 +99,7 @@ impl Mode {
     }
 
     // The place of its SPSR; User and System have none.
+    #[tactic(auto, unfolding(crate::specs::Mode::spsr_place))]
     pub fn spsr_place(self) -> usize
         ensures { result ≡ spsr_place self.number }
     {
@@ -123,6 +124,7 @@ impl Mode {
     }
 
     // The place of its return address: its LR, for Hyp ELR_hyp.
+    #[tactic(auto, unfolding(crate::specs::Mode::lr_place))]
     pub fn lr_place(self) -> usize
         ensures { result ≡ lr_place self.number }
     {

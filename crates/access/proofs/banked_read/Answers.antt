@@ -1,6 +1,6 @@
 -- The operands, whether the access is denied, and then the access itself.
 use mathlib.Core.Path.{refl}
-use Rattle.access.proofs.Access.{word_inside, mode_number, read_out, read_ruled, malformed}
+use Rattle.access.proofs.Access.{word_inside, read_out, read_ruled, malformed}
 use Rattle.access.proofs.banked_read.Goals as goal
 use Rattle.rules.proofs.Carrying.{same_action, refused}
 use Rattle.rules.specs.Event.{BANKED_READ, bad_event}
@@ -12,12 +12,6 @@ returns-then-beyond c =
     let a = c.args in
     let p = c.requires in
     malformed a.block.now BANKED_READ a.a a.b p.0.0 p.1 refl c.beyond.ensures c.if-beyond.true c.refuse.ensures
-
-pub is_denied-requires : goal.is_denied-requires
-is_denied-requires c = mode_number c.args.block.now c.requires.0.2 c.requires.1
-
-pub denial_of-requires : goal.denial_of-requires
-denial_of-requires c = mode_number c.args.block.now c.requires.0.2 c.requires.1
 
 pub returns-then-is_denied : goal.returns-then-is_denied
 unfolding bad_event

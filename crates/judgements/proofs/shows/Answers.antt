@@ -29,10 +29,6 @@ module _ (r b : List ℕ) where
       ∙ ap (take OLD_BLOCK_SIZE) e
       ∙ take-take OLD_BLOCK_SIZE BLOCK_SIZE b (lit≤ tt)
 
-  behind : (old : Bool) → length b ≡ BLOCK_SIZE → Whole old → ShowsBehind old r b
-  behind true l e = tt
-  behind false l e = ap (drop OLD_BLOCK_SIZE) (e ∙ take_all BLOCK_SIZE b (omega arith))
-
   whole : (old : Bool) → length b ≡ BLOCK_SIZE → Front → ShowsBehind old r b → Whole old
   whole true l i j = i
   whole false l i j =

@@ -1,3 +1,4 @@
+-- Four bytes of the slice, joined as the definition joins them.
 use Rattle.words.specs.Word.{spelt}
 use Rattle.words.proofs.word_at.Goals as goal
 

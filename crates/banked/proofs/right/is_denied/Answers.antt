@@ -5,8 +5,8 @@ use Rattle.banked.proofs.Rights.{cells_say}
 use Rattle.banked.proofs.right.is_denied.Goals as goal
 
 pub returns-then-a-lt64 : goal.returns-then-a-lt64
-returns-then-a-lt64 c = let given = c in
-    cells_say _ given.args.cpsr given.args.scr c.if-a-lt64.true given.requires c.denied_cells.ensures
+returns-then-a-lt64 c =
+    cells_say _ c.args.cpsr c.args.scr c.if-a-lt64.true c.requires c.denied_cells.ensures
 
 pub returns-else-a-lt64 : goal.returns-else-a-lt64
 returns-else-a-lt64 c = rw (eq-eqb _ _ (cell_out _ c.if-a-lt64.false))

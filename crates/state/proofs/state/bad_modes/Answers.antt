@@ -1,3 +1,4 @@
+-- Each set is tried at the 32 mode numbers.
 use mathlib.Core.Path.{refl}
 use Rattle.state.proofs.Good.{bad_modes}
 use Rattle.state.proofs.Test.{told}

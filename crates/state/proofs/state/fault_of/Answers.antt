@@ -1,3 +1,4 @@
+-- The set holds the modes that a good block is not in, so it answers for every row but that of bits 24 to 21.
 use mathlib.Core.Path.{◌∙◌}
 use borrow.Author.Tests.{eq-eqb, ne_eqb}
 use Rattle.state.proofs.Good.{in_bad_mode, not_clear, is_good}

@@ -1,3 +1,4 @@
+-- The definition's own test.
 use mathlib.Core.Bool.{Bool, not, ◌||◌}
 use mathlib.Core.Path.{◌≡◌}
 use Rattle.state.proofs.state.is_secure.Goals as goal

@@ -1,3 +1,4 @@
+-- The definition's own test.
 use Rattle.state.proofs.Test.{told}
 use Rattle.state.proofs.state.mode_fault.Goals as goal
 

@@ -1,3 +1,4 @@
+-- The front up to a multiple of 32 and the rest behind it are all of the two runs.
 use mathlib.Core.List.{List}
 use mathlib.Core.Path.{ap}
 use Prim.Native.Nat.{ℕ}

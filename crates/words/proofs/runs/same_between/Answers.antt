@@ -1,3 +1,4 @@
+-- The flag is true just where the bytes passed agree.
 use borrow.Author.Rules.{rules}
 use Rattle.words.proofs.Agree.{agree_none, agree_more, agree_to}
 use Rattle.words.proofs.runs.same_between.Goals as goal

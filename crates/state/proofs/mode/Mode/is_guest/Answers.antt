@@ -1,3 +1,4 @@
+-- The set of these modes as a word, looked up by a shift, is their list.
 use mathlib.Core.Path.{refl, sym}
 use Rattle.state.proofs.Sets.{in_set_lem, among_out}
 use Rattle.state.specs.Mode.{guest, guest_modes}
