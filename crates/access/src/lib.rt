@@ -1,81 +1,107 @@
-// The events that touch one word of a good block: banked accesses (document 01, "Banked-register rights") and notes.
+// The banked accesses (document 01, "Banked-register rights") and notes, on a good block.
 #![tactic(auto)]
 
-ghost use Rattle.std.specs.Prelude.{◌≡◌, ◌<◌, length};
-ghost use Rattle.state.specs.Place.{PLACES, BLOCK_SIZE};
-ghost use Rattle.rules.specs.Event.{BANKED_READ, BANKED_WRITE, NOTE};
-ghost use Rattle.rules.specs.Parts.{Ready, Carried, judged_put};
-ghost use Rattle.rules.specs.Step.{ANSWER_SIZE, action};
+ghost use Rattle.std.specs.Prelude.{◌<◌};
+ghost use Rattle.rules.specs.Event as codes;
+ghost use Rattle.rules.specs.Parts.{CameTo, judged_put};
+ghost use Rattle.state.specs.Place.{PLACES};
+ghost use Rattle.state.specs.Refusal.{number_of};
 
-use banked::cell::cell_of;
-use banked::right::{denial_of, is_denied};
-use rules::answer::{done, refuse};
-use rules::event::{CELL_VALUES, PLACE_VALUES, beyond};
+use banked::right::register_of;
+use rules::event::{CELL_VALUES, Operands, PLACE_VALUES};
+use rules::rule::Rule;
 use rules::verdict::Verdict;
-use state::state::fault_of;
-use state::{number, place};
+use state::place;
+use state::place::BLOCK_SIZE;
+use state::refusal::Refusal;
+use state::state::Status;
 use words::{get_word, put_word};
 
-#[tactic(auto, using(crate::proofs::Access::mode_number))]
-pub fn banked_read(block: &mut [u8], cpsr: u32, scr: u32, a: u32, b: u32, buffer: &mut [u8]) -> u32
-    requires { Ready block.old buffer.old cpsr scr }
-    ensures { Carried block.old (action block.old (record { code = BANKED_READ; a = a; b = b })) result
-        block.new buffer.new }
-{
-    if beyond(a, CELL_VALUES, b) {
-        return refuse(buffer, number::BAD_EVENT);
+pub struct BankedRead;
+
+impl Rule for BankedRead {
+    ghost code = { codes.BANKED_READ };
+
+    #[tactic(auto, using(crate::proofs::Access::mode_number, crate::proofs::Access::read_inside))]
+    fn apply(
+        block: &mut [u8; BLOCK_SIZE],
+        operands: Operands,
+        status: Status,
+    ) -> Result<Verdict, Refusal> {
+        if !operands.are_within(CELL_VALUES) {
+            return Err(Refusal::BadEvent);
+        }
+        let p = register_of(operands.a, status)?;
+        Ok(Verdict::Register(get_word(block, p)))
     }
-    if is_denied(a, cpsr, scr) {
-        return refuse(buffer, denial_of(a, cpsr));
-    }
-    let p = cell_of(a);
-    done(buffer, Verdict::Register(get_word(block, p)))
 }
 
-// The word w put at the place p, or the refusal n where it is one.
-fn put_unless(block: &mut [u8], p: usize, w: u32, n: u32, buffer: &mut [u8]) -> u32
-    requires { (length block.old ≡ BLOCK_SIZE) × (length buffer.old ≡ ANSWER_SIZE) × (p < PLACES) }
-    ensures { Carried block.old (judged_put p w n) result block.new buffer.new }
-{
-    if n != number::DONE {
-        return refuse(buffer, n);
+pub struct BankedWrite;
+
+impl Rule for BankedWrite {
+    ghost code = { codes.BANKED_WRITE };
+
+    #[tactic(auto, using(crate::proofs::Access::mode_number, crate::proofs::Access::write_inside))]
+    fn apply(
+        block: &mut [u8; BLOCK_SIZE],
+        operands: Operands,
+        status: Status,
+    ) -> Result<Verdict, Refusal> {
+        if CELL_VALUES <= operands.a {
+            return Err(Refusal::BadEvent);
+        }
+        let p = register_of(operands.a, status)?;
+        put_word(block, p, operands.b);
+        Ok(Verdict::Written(operands.b))
     }
+}
+
+// The word w put at the place p, if the block that it makes is judged good.
+fn put_if(
+    block: &mut [u8; BLOCK_SIZE],
+    p: usize,
+    w: u32,
+    judged: Result<(), Refusal>,
+) -> Result<Verdict, Refusal>
+    requires { p < PLACES }
+    ensures { CameTo block.old (judged_put p w (number_of judged)) result block.new }
+{
+    judged?;
     put_word(block, p, w);
-    done(buffer, Verdict::Written(w))
-}
-
-#[tactic(auto, using(crate::proofs::Access::mode_number))]
-pub fn banked_write(block: &mut [u8], cpsr: u32, scr: u32, a: u32, b: u32, buffer: &mut [u8]) -> u32
-    requires { Ready block.old buffer.old cpsr scr }
-    ensures { Carried block.old (action block.old (record { code = BANKED_WRITE; a = a; b = b })) result
-        block.new buffer.new }
-{
-    if beyond(a, CELL_VALUES, 0) {
-        return refuse(buffer, number::BAD_EVENT);
-    }
-    if is_denied(a, cpsr, scr) {
-        return refuse(buffer, denial_of(a, cpsr));
-    }
-    let p = cell_of(a);
-    put_word(block, p, b);
-    done(buffer, Verdict::Written(b))
+    Ok(Verdict::Written(w))
 }
 
 // A note is judged by the block that it would make, which is as good as it was where the note is not on CPSR, SCR or HCR.
-pub fn note(block: &mut [u8], cpsr: u32, scr: u32, a: u32, b: u32, buffer: &mut [u8]) -> u32
-    requires { Ready block.old buffer.old cpsr scr }
-    ensures { Carried block.old (action block.old (record { code = NOTE; a = a; b = b })) result
-        block.new buffer.new }
-{
-    if beyond(a, PLACE_VALUES, 0) {
-        return refuse(buffer, number::BAD_EVENT);
-    }
-    let hcr = get_word(block, place::HCR);
-    let p = a as usize;
-    match p {
-        place::CPSR => put_unless(block, place::CPSR, b, fault_of(b, scr, hcr), buffer),
-        place::SCR => put_unless(block, place::SCR, b, fault_of(cpsr, b, hcr), buffer),
-        place::HCR => put_unless(block, place::HCR, b, fault_of(cpsr, scr, b), buffer),
-        _ => put_unless(block, p, b, number::DONE, buffer),
+pub struct Note;
+
+impl Rule for Note {
+    ghost code = { codes.NOTE };
+
+    fn apply(
+        block: &mut [u8; BLOCK_SIZE],
+        operands: Operands,
+        status: Status,
+    ) -> Result<Verdict, Refusal> {
+        if PLACE_VALUES <= operands.a {
+            return Err(Refusal::BadEvent);
+        }
+        let hcr = get_word(block, place::HCR);
+        let p = operands.a as usize;
+        let b = operands.b;
+        let judged = match p {
+            place::CPSR => Status {
+                cpsr: b,
+                scr: status.scr,
+            }
+            .judge(hcr),
+            place::SCR => Status {
+                cpsr: status.cpsr,
+                scr: b,
+            }
+            .judge(hcr),
+            place::HCR => status.judge(b),
+            _ => Ok(()),
+        };
+        put_if(block, p, b, judged)
     }
 }

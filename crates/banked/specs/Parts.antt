@@ -1,8 +1,17 @@
 -- Cells as words: what the code's own parts answer. Nobody has to believe these: laws of proofs/ join them to `cell`, to
 -- `denied` and to `own`.
-use Rattle.std.specs.Prelude.{Bool, List, [], ◌∷◌, ℕ, ◌+◌, ◌*◌, ◌-◌, ◌/◌, ◌^◌, get_or, if◌then◌else◌}
+use Rattle.std.specs.Prelude.{Result, Ok, Err, ◌≡◌, Bool, true, false, ◌||◌, List, [], ◌∷◌, get_or, if◌then◌else◌}
+use Rattle.std.specs.Prelude.{ℕ, ◌+◌, ◌*◌, ◌-◌, ◌/◌, ◌^◌}
 use Rattle.std.specs.Int.Bits.{bit_or}
 use Rattle.state.specs.Choice.{◌is◌}
+use Rattle.banked.specs.Cell.{cell}
+use Rattle.banked.specs.Right.{denied, reason}
+use Rattle.state.specs.Field.{mode_field}
+use Rattle.state.specs.Number.{NO_REGISTER}
+use Rattle.state.specs.Place.{NO_PLACE}
+use Rattle.state.specs.Refusal.{number}
+use Rattle.state.specs.declared.refusal.Refusal.{Refusal}
+use Rattle.state.specs.State.{secure}
 use Rattle.state.specs.Mode.{USER, FIQ, IRQ, SUPERVISOR, MONITOR, ABORT, HYP, UNDEFINED, SYSTEM}
 
 -- the 64 cells by eights, a byte each, the first in the lowest; the last eight stand apart, for what is behind the others
@@ -79,3 +88,11 @@ own_to m =
     if m is low UNDEFINED then usr + own 22 else
     if m is low SYSTEM then usr + 2 ^ 5 + 2 ^ 6 else
     0
+
+-- what is said of the register that A names: its place, or why it may not be reached
+abbrev pub Reached : ℕ → ℕ → ℕ → Result ℕ Refusal → Type 0
+Reached a cpsr scr (Ok p) =
+    (p ≡ cell a) × ((cell a is NO_PLACE || denied (cell a) (mode_field cpsr) (secure cpsr scr)) ≡ false)
+Reached a cpsr scr (Err r) =
+    (number r ≡ (if cell a is NO_PLACE then NO_REGISTER else reason (cell a) (mode_field cpsr)))
+    × ((cell a is NO_PLACE || denied (cell a) (mode_field cpsr) (secure cpsr scr)) ≡ true)

@@ -1,5 +1,5 @@
 // The 64 cells of Tables F5-116 and F5-117 (document 01, "Banked-register rights"; Arm's source 004, section F5.2.3).
-ghost use Rattle.std.specs.Prelude.{◌≡◌, ◌<◌};
+ghost use Rattle.std.specs.Prelude.{◌≡◌};
 ghost use Rattle.banked.specs.Cell.{cell};
 ghost use Rattle.banked.specs.Parts.{eight_from};
 
@@ -81,19 +81,13 @@ const CELLS: [u8; 64] = [
     place::NO_PLACE as u8,
 ];
 
-fn wide(x: u8) -> usize
-    ensures { result ≡ x }
-{
-    x as usize
-}
-
 // The place of the register that A names, or NO_PLACE: one look into the table.
+#[tactic(auto, using(crate::proofs::Cells::cells_right, crate::proofs::Cells::cell_out))]
 pub fn cell_in_table(a: u32) -> usize
     ensures { result ≡ cell a }
 {
     if a < 64 {
-        let i = a as usize;
-        wide(CELLS[i])
+        usize::from(CELLS[a as usize])
     } else {
         place::NO_PLACE
     }
@@ -123,6 +117,7 @@ fn eight_from(a: u32) -> u64
 
 // The same, quicker, for the step: the compiler copies the constant table to the stack wherever it is looked into, 14
 // instructions, and makes a static table of a match. One of 64 arms would be too large for it to become part of both accesses.
+#[tactic(auto, using(crate::proofs::Cells::byte_right, crate::proofs::Cells::cell_out))]
 pub fn cell_of(a: u32) -> usize
     ensures { result ≡ cell a }
 {

@@ -1,17 +1,20 @@
 // Who may reach a banked register, and why not (document 01, "Banked-register rights"; document 02, No. 10).
 ghost use Rattle.std.specs.Prelude.{◌≡◌, ◌||◌, ◌%◌, ◌≤◌, if◌then◌else◌};
 ghost use Rattle.state.specs.Choice.{◌is◌};
-ghost use Rattle.state.specs.Field.{mode_field, SCR_NS};
+ghost use Rattle.state.specs.Field.{mode_field, SCR_NS as ns_of};
 ghost use Rattle.state.specs.Number.{NO_REGISTER};
 ghost use Rattle.state.specs.Place.{NO_PLACE};
+ghost use Rattle.state.specs.Refusal.{number};
 ghost use Rattle.state.specs.State.{secure};
 ghost use Rattle.banked.specs.Cell.{cell};
-ghost use Rattle.banked.specs.Parts.{denied_to, denied_cells, own_to};
+ghost use Rattle.banked.specs.Parts.{denied_to, denied_cells, own_to, Reached};
 ghost use Rattle.banked.specs.Right.{denied, reason};
 
-use state::field::scr_ns;
+use crate::cell::cell_of;
+use state::field::{SCR_NS, is_set};
 use state::mode::Mode;
-use state::number;
+use state::refusal::Refusal;
+use state::state::Status;
 
 // Cells as a set, a word with bit A for the cell of A: those that name no register,
 const UNALLOCATED: u64 = 0xAFAA_BFFF_0F00_8080;
@@ -86,20 +89,26 @@ fn denied_to(mode: u32) -> u64
 }
 
 // The same in the state of SCR: from Non-secure state those of Monitor mode cannot be reached either.
-fn denied_cells(cpsr: u32, scr: u32) -> u64
-    ensures { result ≡ denied_cells (cpsr % 16) (SCR_NS scr) }
+#[tactic(auto, unfolding(crate::specs::Parts::denied_cells))]
+fn denied_cells(status: Status) -> u64
+    ensures { result ≡ denied_cells (status.cpsr % 16) (ns_of status.scr) }
 {
-    let cells = denied_to(cpsr % 16);
-    if scr_ns(scr) { cells | OF_MON } else { cells }
+    let cells = denied_to(status.cpsr % 16);
+    if is_set::<SCR_NS>(status.scr) {
+        cells | OF_MON
+    } else {
+        cells
+    }
 }
 
 // Is there no register of A that may be reached? One look at the set of the mode, which is one of 16 to 31.
-pub fn is_denied(a: u32, cpsr: u32, scr: u32) -> bool
-    requires { 16 ≤ mode_field cpsr }
-    ensures { result ≡ (cell a is NO_PLACE || denied (cell a) (mode_field cpsr) (secure cpsr scr)) }
+#[tactic(auto, using(crate::proofs::Rights::cells_say, crate::proofs::Cells::cell_out))]
+pub fn is_denied(a: u32, status: Status) -> bool
+    requires { 16 ≤ mode_field status.cpsr }
+    ensures { result ≡ (cell a is NO_PLACE || denied (cell a) (mode_field status.cpsr) (secure status.cpsr status.scr)) }
 {
     if a < 64 {
-        denied_cells(cpsr, scr) >> a & 1 == 1
+        denied_cells(status) >> a & 1 == 1
     } else {
         true
     }
@@ -123,19 +132,31 @@ fn own_to(mode: u32) -> u64
     }
 }
 
-// Why, as a number: one look at the set of the mode's own.
-pub fn denial_of(a: u32, cpsr: u32) -> u32
+// Why: one look at the set of the mode's own.
+pub fn denial_of(a: u32, cpsr: u32) -> Refusal
     requires { 16 ≤ mode_field cpsr }
-    ensures { result ≡ (if cell a is NO_PLACE then NO_REGISTER else reason (cell a) (mode_field cpsr)) }
+    ensures { number result ≡ (if cell a is NO_PLACE then NO_REGISTER else reason (cell a) (mode_field cpsr)) }
 {
     if a < 64 {
         if UNALLOCATED >> a & 1 == 1 {
-            return number::NO_REGISTER;
+            return Refusal::NoRegister;
         }
         if own_to(cpsr % 16) >> a & 1 == 1 {
-            return number::OWN_REGISTER;
+            return Refusal::OwnRegister;
         }
-        return number::NO_RIGHT;
+        return Refusal::NoRight;
     }
-    number::NO_REGISTER
+    Refusal::NoRegister
+}
+
+// The place of the register that A names, if it may be reached.
+#[inline(always)]
+pub fn register_of(a: u32, status: Status) -> Result<usize, Refusal>
+    requires { 16 ≤ mode_field status.cpsr }
+    ensures { Reached a status.cpsr status.scr result }
+{
+    if is_denied(a, status) {
+        return Err(denial_of(a, status.cpsr));
+    }
+    Ok(cell_of(a))
 }

@@ -2,115 +2,114 @@
 // in the paper's notation; what it must say stands in the file stdout, written by hand from the paper.
 #![tactic(auto)]
 
-ghost use Rattle.std.specs.Prelude.{◌≤◌, ◌<◌};
+ghost use Rattle.std.specs.Prelude.{◌<◌};
 ghost use Rattle.state.specs.Place.{PLACES as places};
 
 use rules::event::Event;
 use rules::verdict::Answer;
 use state::place;
-use state::place::BLOCK_SIZE;
-use std::io;
+use state::place::{BLOCK_SIZE, PLACES};
+use state::refusal::DONE;
+use std::fmt::{Display, Formatter, Write};
+use std::{fmt, io};
 use words::{get_word, put_word};
-
-// How many words a block has.
-const PLACES: u32 = place::PLACES as u32;
 
 // ---- writing
 
-fn say(rt: &impl Print, text: &[u8]) -> io::Result<()> {
-    rt.write_all(text)
-}
-
-// A hexadecimal digit's character, as the paper writes it.
-fn glyph(d: u32) -> u8 {
-    let v = d % 16;
-    if v < 10 {
-        ((48 + v) % 256) as u8
-    } else {
-        ((55 + v) % 256) as u8
-    }
-}
-
-fn digit(rt: &impl Print, d: u32) -> io::Result<()> {
-    let text = [glyph(d)];
-    say(rt, &text)
-}
-
-// The digit worth unit, unless only zeros stand there.
-fn digit_of(rt: &impl Print, w: u32, unit: u32) -> io::Result<()>
-    requires { 1 ≤ unit }
-{
-    if unit <= w {
-        digit(rt, w / unit)?;
-    }
-    Ok(())
-}
-
 // A word: 0, or 0x and its digits.
-fn say_word(rt: &impl Print, w: u32) -> io::Result<()> {
-    if w == 0 {
-        return say(rt, b"0");
-    }
-    say(rt, b"0x")?;
-    digit_of(rt, w, 0x1000_0000)?;
-    digit_of(rt, w, 0x100_0000)?;
-    digit_of(rt, w, 0x10_0000)?;
-    digit_of(rt, w, 0x1_0000)?;
-    digit_of(rt, w, 0x1000)?;
-    digit_of(rt, w, 0x100)?;
-    digit_of(rt, w, 0x10)?;
-    digit(rt, w)
-}
+#[derive(Clone, Copy)]
+struct Word(u32);
 
-// A register by name and its word after the step.
-fn say_register(rt: &impl Print, name: &[u8], block: &[u8; BLOCK_SIZE], p: usize) -> io::Result<()>
-    requires { p < places }
-{
-    say(rt, b", ")?;
-    say(rt, name)?;
-    say(rt, b" ")?;
-    say_word(rt, get(block, p))
+impl Display for Word {
+    fn fmt<W: Write>(&self, f: &mut Formatter<W>) -> fmt::Result {
+        if self.0 == 0 {
+            return write!(f, "0");
+        }
+        write!(f, "{:#X}", self.0)
+    }
 }
 
 // An answer number: DONE by its name, a refusal by its number.
-fn say_number(rt: &impl Print, n: u32) -> io::Result<()> {
-    if n == 0 {
-        say(rt, b"DONE")
-    } else {
-        rt.print(n)
+#[derive(Clone, Copy)]
+struct Number(u32);
+
+impl Display for Number {
+    fn fmt<W: Write>(&self, f: &mut Formatter<W>) -> fmt::Result {
+        if self.0 == DONE {
+            return write!(f, "DONE");
+        }
+        write!(f, "{}", self.0)
     }
 }
 
+// A register of the block.
+#[derive(Clone, Copy)]
+struct Register {
+    name: &'static str,
+    place: usize,
+    ghost inside: { place < places },
+}
+
+const SCR: Register = Register {
+    name: "SCR",
+    place: place::SCR,
+};
+
+const CPSR: Register = Register {
+    name: "CPSR",
+    place: place::CPSR,
+};
+
+const PC: Register = Register {
+    name: "PC",
+    place: place::PC,
+};
+
+const HCR: Register = Register {
+    name: "HCR",
+    place: place::HCR,
+};
+
+const ELR_HYP: Register = Register {
+    name: "ELR_hyp",
+    place: place::ELR_HYP,
+};
+
+const LR_SVC: Register = Register {
+    name: "LR_svc",
+    place: place::LR_SVC,
+};
+
+const LR_ABT: Register = Register {
+    name: "LR_abt",
+    place: place::LR_ABT,
+};
+
+const LR_IRQ: Register = Register {
+    name: "LR_irq",
+    place: place::LR_IRQ,
+};
+
+const LR_MON: Register = Register {
+    name: "LR_mon",
+    place: place::LR_MON,
+};
+
 // ---- blocks and steps
-
-// A word at a place of a whole block, and one put there.
-fn get(block: &[u8; BLOCK_SIZE], p: usize) -> u32
-    requires { p < places }
-{
-    get_word(block, p)
-}
-
-fn put(block: &mut [u8; BLOCK_SIZE], p: usize, w: u32)
-    requires { p < places }
-{
-    put_word(block, p, w);
-}
 
 // A block that is 0 but for SCR, CPSR and PC.
 fn block_with(scr: u32, cpsr: u32, pc: u32) -> [u8; BLOCK_SIZE] {
     let mut block = [0u8; BLOCK_SIZE];
-    put(&mut block, place::SCR, scr);
-    put(&mut block, place::CPSR, cpsr);
-    put(&mut block, place::PC, pc);
+    put_word(&mut block, place::SCR, scr);
+    put_word(&mut block, place::CPSR, cpsr);
+    put_word(&mut block, place::PC, pc);
     block
 }
 
 // A different word at every place, none of them 0.
 fn number_places(block: &mut [u8; BLOCK_SIZE]) {
-    let mut p: u32 = 0;
-    while p < PLACES {
-        put(block, p as usize, 0x100 + p);
-        p += 1;
+    for p in 0..PLACES {
+        put_word(block, p, 0x100 + p as u32);
     }
 }
 
@@ -118,146 +117,142 @@ fn number_places(block: &mut [u8; BLOCK_SIZE]) {
 fn full_block_with(scr: u32, cpsr: u32, pc: u32) -> [u8; BLOCK_SIZE] {
     let mut block = [0u8; BLOCK_SIZE];
     number_places(&mut block);
-    put(&mut block, place::SCR, scr);
-    put(&mut block, place::CPSR, cpsr);
-    put(&mut block, place::PC, pc);
+    put_word(&mut block, place::SCR, scr);
+    put_word(&mut block, place::CPSR, cpsr);
+    put_word(&mut block, place::PC, pc);
     block
 }
 
 fn step(block: &mut [u8; BLOCK_SIZE], code: u32, a: u32) -> Answer {
-    machine::step::step_event(
-        block,
-        Event {
-            code: code,
-            a: a,
-            b: 0,
-        },
-    )
-}
-
-fn same_block(a: &[u8; BLOCK_SIZE], b: &[u8; BLOCK_SIZE]) -> bool {
-    words::runs::same(a, b)
+    machine::step::step_event(block, Event { code, a, b: 0 })
 }
 
 // ---- the cases
 
-// An interrupt check's value, up to what is named beside it.
-fn checked(
+// The codes of their events.
+const SVC: u32 = 2;
+
+const SMC: u32 = 3;
+
+const INTERRUPT_CHECK: u32 = 9;
+
+const BANKED_READ: u32 = 10;
+
+// An event's value, and each of these registers after it.
+fn say(
     rt: &impl Print,
-    label: &[u8],
+    label: &str,
     block: &mut [u8; BLOCK_SIZE],
-    lines: u32,
+    code: u32,
+    a: u32,
+    registers: &[Register],
 ) -> io::Result<()> {
-    say(rt, label)?;
-    let r = step(block, 9, lines);
-    say_word(rt, r.value)
+    let value = Word(step(block, code, a).value);
+    print!(rt; "{label}{value}")?;
+    for r in registers {
+        let name = r.name;
+        let word = Word(get_word(block, r.place));
+        print!(rt; ", {name} {word}")?;
+    }
+    Ok(())
 }
 
 fn case_a(rt: &impl Print) -> io::Result<()> {
     let mut block = block_with(1, 0x13, 0x8000);
-    put(&mut block, place::VBAR_NS, 0x1000_0000);
-    checked(rt, b"a ", &mut block, 4)?;
-    say_register(rt, b"CPSR", &block, place::CPSR)?;
-    say_register(rt, b"LR_irq", &block, place::LR_IRQ)?;
-    say_register(rt, b"PC", &block, place::PC)?;
-    say(rt, b"\n")
+    put_word(&mut block, place::VBAR_NS, 0x1000_0000);
+    say(
+        rt,
+        "a ",
+        &mut block,
+        INTERRUPT_CHECK,
+        4,
+        &[CPSR, LR_IRQ, PC],
+    )?;
+    println!(rt;)
 }
 
 fn case_b(rt: &impl Print) -> io::Result<()> {
     let mut block = block_with(3, 0x13, 0x8000);
-    put(&mut block, place::VBAR_NS, 0x1000_0000);
-    checked(rt, b"b ", &mut block, 4)?;
-    say_register(rt, b"CPSR", &block, place::CPSR)?;
-    say(rt, b"\n")
+    put_word(&mut block, place::VBAR_NS, 0x1000_0000);
+    say(rt, "b ", &mut block, INTERRUPT_CHECK, 4, &[CPSR])?;
+    println!(rt;)
 }
 
 // Nothing taken: no byte of the block may differ from the start.
 fn case_c(rt: &impl Print) -> io::Result<()> {
     let start = block_with(3, 0x93, 0x8000);
     let mut block = start;
-    checked(rt, b"c ", &mut block, 4)?;
-    if same_block(&start, &block) {
-        say(rt, b", nothing taken")?;
+    say(rt, "c ", &mut block, INTERRUPT_CHECK, 4, &[])?;
+    if start == block {
+        print!(rt; ", nothing taken")?;
     }
-    say(rt, b"\n")
+    println!(rt;)
 }
 
 fn case_d(rt: &impl Print) -> io::Result<()> {
     let mut block = block_with(1, 0x93, 0x8000);
-    put(&mut block, place::HCR, 0x10);
-    checked(rt, b"d ", &mut block, 4)?;
-    say_register(rt, b"CPSR", &block, place::CPSR)?;
-    say_register(rt, b"ELR_hyp", &block, place::ELR_HYP)?;
-    say(rt, b"\n")
+    put_word(&mut block, place::HCR, 0x10);
+    say(rt, "d ", &mut block, INTERRUPT_CHECK, 4, &[CPSR, ELR_HYP])?;
+    println!(rt;)
 }
 
 fn case_e(rt: &impl Print) -> io::Result<()> {
     let mut block = block_with(5, 0x53, 0x8000);
-    checked(rt, b"e ", &mut block, 2)?;
+    say(rt, "e ", &mut block, INTERRUPT_CHECK, 2, &[])?;
     let mut other = block_with(0x15, 0x53, 0x8000);
-    checked(rt, b"; with SCR 0x15: ", &mut other, 2)?;
-    say(rt, b"\n")
+    say(rt, "; with SCR 0x15: ", &mut other, INTERRUPT_CHECK, 2, &[])?;
+    println!(rt;)
 }
 
 fn case_f(rt: &impl Print) -> io::Result<()> {
     let mut block = block_with(1, 0x13, 0x8000);
-    put(&mut block, place::HCR, 0x120);
-    checked(rt, b"f ", &mut block, 0)?;
-    say_register(rt, b"HCR", &block, place::HCR)?;
-    say_register(rt, b"LR_abt", &block, place::LR_ABT)?;
-    say(rt, b"\n")
+    put_word(&mut block, place::HCR, 0x120);
+    say(rt, "f ", &mut block, INTERRUPT_CHECK, 0, &[HCR, LR_ABT])?;
+    println!(rt;)
 }
 
 fn case_g(rt: &impl Print) -> io::Result<()> {
     let mut block = block_with(1, 0x30, 0xFFFF_FFFE);
-    say(rt, b"g ")?;
-    let r = step(&mut block, 2, 0);
-    say_word(rt, r.value)?;
-    say_register(rt, b"LR_svc", &block, place::LR_SVC)?;
-    say_register(rt, b"CPSR", &block, place::CPSR)?;
-    say(rt, b"\n")
+    say(rt, "g ", &mut block, SVC, 0, &[LR_SVC, CPSR])?;
+    println!(rt;)
 }
 
 fn case_h(rt: &impl Print) -> io::Result<()> {
     let mut block = block_with(1, 0x16, 0x8000);
-    say(rt, b"h ")?;
-    let r = step(&mut block, 3, 0);
-    say_word(rt, r.value)?;
-    say_register(rt, b"SCR", &block, place::SCR)?;
-    say_register(rt, b"LR_mon", &block, place::LR_MON)?;
-    say(rt, b"\n")
+    say(rt, "h ", &mut block, SMC, 0, &[SCR, LR_MON])?;
+    println!(rt;)
 }
 
 // A banked read of the cell A: its number, and what it read.
-fn read(rt: &impl Print, label: &[u8], start: [u8; BLOCK_SIZE], a: u32) -> io::Result<u32> {
+fn read(rt: &impl Print, label: &str, start: [u8; BLOCK_SIZE], a: u32) -> io::Result<u32> {
     let mut block = start;
-    say(rt, label)?;
-    let r = step(&mut block, 10, a);
-    say_number(rt, r.number)?;
-    Ok(r.value)
+    let answer = step(&mut block, BANKED_READ, a);
+    let number = Number(answer.number);
+    print!(rt; "{label}{number}")?;
+    Ok(answer.value)
 }
 
 fn case_i(rt: &impl Print) -> io::Result<()> {
-    read(rt, b"i ", block_with(1, 0x13, 0x8000), 31)?;
-    read(rt, b"; from 0x16: ", block_with(1, 0x16, 0x8000), 31)?;
-    say(rt, b"\n")
+    read(rt, "i ", block_with(1, 0x13, 0x8000), 31)?;
+    read(rt, "; from 0x16: ", block_with(1, 0x16, 0x8000), 31)?;
+    println!(rt;)
 }
 
 fn case_j(rt: &impl Print) -> io::Result<()> {
-    read(rt, b"j ", block_with(1, 0x1A, 0x8000), 30)?;
-    read(rt, b"; A 62: ", block_with(1, 0x1A, 0x8000), 62)?;
-    read(rt, b"; A 7: ", block_with(1, 0x1A, 0x8000), 7)?;
-    say(rt, b"\n")
+    read(rt, "j ", block_with(1, 0x1A, 0x8000), 30)?;
+    read(rt, "; A 62: ", block_with(1, 0x1A, 0x8000), 62)?;
+    read(rt, "; A 7: ", block_with(1, 0x1A, 0x8000), 7)?;
+    println!(rt;)
 }
 
 // The word that was read is LR_mon's.
 fn case_k(rt: &impl Print) -> io::Result<()> {
     let start = block_with(0, 0x13, 0x8000);
-    let w = read(rt, b"k ", start, 28)?;
-    if w == get(&start, place::LR_MON) {
-        say(rt, b", LR_mon")?;
+    let w = read(rt, "k ", start, 28)?;
+    if w == get_word(&start, place::LR_MON) {
+        print!(rt; ", LR_mon")?;
     }
-    say(rt, b"\n")
+    println!(rt;)
 }
 
 // i, j and k again with a different non-zero word at every place, so that a read of the wrong place shows.
@@ -265,19 +260,15 @@ fn cases_again(rt: &impl Print) -> io::Result<()> {
     let svc = full_block_with(1, 0x13, 0x8000);
     let mon = full_block_with(1, 0x16, 0x8000);
     let hyp = full_block_with(1, 0x1A, 0x8000);
-    read(rt, b"again: i ", svc, 31)?;
-    let sp_hyp = read(rt, b"; from 0x16: ", mon, 31)?;
-    say(rt, b" ")?;
-    say_word(rt, sp_hyp)?;
-    let elr_hyp = read(rt, b"\nagain: j ", hyp, 30)?;
-    say(rt, b" ")?;
-    say_word(rt, elr_hyp)?;
-    read(rt, b"; A 62: ", hyp, 62)?;
-    read(rt, b"; A 7: ", hyp, 7)?;
-    let lr_mon = read(rt, b"\nagain: k ", full_block_with(2, 0x13, 0x8000), 28)?;
-    say(rt, b", LR_mon ")?;
-    say_word(rt, lr_mon)?;
-    say(rt, b"\n")
+    read(rt, "again: i ", svc, 31)?;
+    let sp_hyp = Word(read(rt, "; from 0x16: ", mon, 31)?);
+    print!(rt; " {sp_hyp}")?;
+    let elr_hyp = Word(read(rt, "\nagain: j ", hyp, 30)?);
+    print!(rt; " {elr_hyp}")?;
+    read(rt, "; A 62: ", hyp, 62)?;
+    read(rt, "; A 7: ", hyp, 7)?;
+    let lr_mon = Word(read(rt, "\nagain: k ", full_block_with(2, 0x13, 0x8000), 28)?);
+    println!(rt; ", LR_mon {lr_mon}")
 }
 
 fn main(rt: HostRuntime) -> io::Result<()> {

@@ -38,3 +38,6 @@ put_all_lem (w ∷ ws) h t p e l =
 
 pub filled : (ws b : List ℕ) → length b ≡ 4 * length ws → put_all b 0 ws ≡ bytes_of ws
 filled ws b l = put_all_lem ws [] b 0 refl l
+
+pub filled_one : (b : List ℕ) (w : ℕ) → length b ≡ 4 → put b 0 w ≡ le32 w
+filled_one b w l = filled (w ∷ []) b l

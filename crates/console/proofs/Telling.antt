@@ -1,56 +1,58 @@
--- The three ways in which the lines of counts are told to C.
-use Rattle.std.specs.Prelude.{if◌then◌else◌}
-use mathlib.Core.Path.{◌≡◌, sym, ap, ◌∙◌}
-use mathlib.Core.Bool.{Bool}
+-- What the functions that tell C a number, and words in a lent buffer, are proved by: each one's definitions, to be opened, and its lemmas.
+use Rattle.std.specs.Prelude.{⊤, not, if◌then◌else◌}
+use mathlib.Core.Bool.{Bool, true, false}
 use mathlib.Core.List.{List}
-use Prim.Native.Nat.{ℕ}
+use Prim.Native.Nat.{ℕ, ◌^◌, ◌<◌}
+use native.Mathlib.Omega.{arith}
 use lib.ListN.{length}
-use borrow.Author.Tests.{eq-eqb, ne_eqb}
-use Rattle.state.specs.Number.{BAD_SIZE}
-use Rattle.rules.specs.Step.{ANSWER_SIZE}
-use Rattle.count_lines.specs.declared.Written.{Written}
-use Rattle.count_lines.specs.Lines.{lines_return, lines_leave}
-use Rattle.console.specs.Count.{written_bytes, text_returns, text_leaves, text_answers}
+use lib.Dec.{ltb}
+use Rattle.state.specs.Choice.{◌is◌}
+use Rattle.state.specs.Number.{DONE, BAD_SIZE, NO_ROOM}
+use Rattle.counts.specs.Counts.{WORDS, COUNTS_SIZE}
+use Rattle.count_lines.specs.Lines.{Written, lines, lines_return}
+use Rattle.count_lines.proofs.Lining.{lines_few}
+use Rattle.instruction.proofs.Theorems.{read_number_is, reading_is, write_number_is, writing_is}
+use Rattle.console.specs.Count.{text_returns, text_leaves, text_answers}
+use Rattle.console.specs.Instruction.{read_returns, read_leaves, write_returns, write_leaves}
+use Rattle.console.specs.Session.{close_returns, close_keeps, close_leaves}
+use Rattle.console.proofs.Filled.{filled_one}
 
-module _ (counts room answer : List ℕ) where
-  -- number, room and answer buffer as C gets them
-  abbrev pub Tells : ℕ → List ℕ → List ℕ → Type 0
-  Tells n r a =
-      (n ≡ text_returns counts room answer)
-      × ((r ≡ text_leaves counts room answer) × (a ≡ text_answers counts room answer))
+-- ---- the report of a session that is closed
 
-  pub told_bad_answer : (length answer ≡ ANSWER_SIZE → ⊥) → Tells BAD_SIZE room answer
-  unfolding text_returns text_leaves text_answers
-  told_bad_answer n =
-      let t = ne_eqb (length answer) ANSWER_SIZE n in
-      (simp t, (simp t, simp t))
+unfoldable pub closing : ⊤
+unfolding close_returns close_keeps close_leaves
+closing = tt
 
-  module _ (size : length answer ≡ ANSWER_SIZE) (v : Written) (r : List ℕ) (is : v ≡ lines_return counts room)
-      (leaves : r ≡ lines_leave counts room) where
-    number : v.number ≡ text_returns counts room answer
-    unfolding text_returns
-    number = simp (eq-eqb (length answer) ANSWER_SIZE size) (ap (λ (x : Written). x.number) is)
+-- ---- instruction words
 
-    left : r ≡ text_leaves counts room answer
-    unfolding text_leaves
-    left = simp (eq-eqb (length answer) ANSWER_SIZE size) leaves
+unfoldable pub reading : ⊤
+unfolding read_returns read_leaves
+reading = tt
 
-    pub told_bad_counts : v.number ≡ BAD_SIZE → Tells BAD_SIZE r answer
-    unfolding text_answers
-    told_bad_counts e =
-        let t = eq-eqb (text_returns counts room answer) BAD_SIZE (sym number ∙ e) in (
-          sym e ∙ number,
-          (left, ap (λ (b : Bool). if b then answer else written_bytes (lines_return counts room)) (sym t)),
-        )
+pub ruleset of_reading = (read_number_is, reading_is)
 
-    pub told_text : (v.number ≡ BAD_SIZE → ⊥) → (a : List ℕ) → a ≡ written_bytes v → Tells v.number r a
-    unfolding text_answers
-    told_text n a e =
-        let t = ne_eqb (text_returns counts room answer) BAD_SIZE (λ z. n (number ∙ z)) in (
-          number,
-          (
-            left,
-            e ∙ ap written_bytes is
-                ∙ ap (λ (b : Bool). if b then answer else written_bytes (lines_return counts room)) (sym t),
-          ),
-        )
+unfoldable pub writing : ⊤
+unfolding write_returns write_leaves
+writing = tt
+
+pub ruleset of_writing = (write_number_is, writing_is, filled_one)
+
+-- ---- the lines of counts
+
+-- they are a word of bytes, since each of them has at most sixteen
+pub size_small : (counts room : List ℕ) → (lines_return counts room).size < 2 ^ 32
+unfolding lines_return
+size_small counts room = by (length counts is COUNTS_SIZE) (ltb (length room) (length (lines counts)))
+  where
+    by : (t u : Bool) → let told : Written =
+        if not t then record { number = BAD_SIZE; size = 0 } else
+        if u then record { number = NO_ROOM; size = 0 } else
+        record { number = DONE; size = length (lines counts) } in
+        told.size < 2 ^ 32
+    by false u = omega arith
+    by true true = omega arith
+    by true false = omega (arith, lines_few WORDS 0 counts (omega arith))
+
+unfoldable pub lining : ⊤
+unfolding text_returns text_leaves text_answers
+lining = tt

@@ -6,8 +6,7 @@ use Rattle.words.specs.Word.{le32}
 use Rattle.state.specs.Choice.{◌is◌}
 use Rattle.state.specs.Number.{BAD_SIZE}
 use Rattle.rules.specs.Step.{ANSWER_SIZE}
-use Rattle.count_lines.specs.declared.Written.{Written}
-use Rattle.count_lines.specs.Lines.{lines_return, lines_leave}
+use Rattle.count_lines.specs.Lines.{Written, lines_return, lines_leave}
 
 abbrev pub written_bytes : Written → List ℕ
 written_bytes v = le32 v.number ++ le32 v.size

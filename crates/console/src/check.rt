@@ -4,7 +4,7 @@ ghost use Rattle.records.specs.Either.{PublishedInOne};
 ghost use Rattle.console.specs.Check.{report_size, report_bytes, check_returns, check_leaves};
 
 use records::report::Report;
-use state::number;
+use state::refusal::Refusal;
 use words::put_word;
 
 pub(crate) const REPORT_SIZE: usize = 12;
@@ -17,8 +17,7 @@ const PLACE: usize = 1;
 const STEPS: usize = 2;
 
 // A report into its buffer.
-pub(crate) fn put_report(buffer: &mut [u8], found: Report)
-    requires { length buffer.old ≡ report_size }
+pub(crate) fn put_report(buffer: &mut [u8; REPORT_SIZE], found: Report)
     ensures { buffer.new ≡ report_bytes found }
 {
     put_word(buffer, NUMBER, found.number);
@@ -27,15 +26,16 @@ pub(crate) fn put_report(buffer: &mut [u8], found: Report)
 }
 
 // Returns the number, and writes number, place and Steps. A report that is not 12 bytes answers BAD_SIZE and keeps every byte.
+#[tactic(auto, unfolding(crate::specs::Check::check_returns, crate::specs::Check::check_leaves))]
 #[unsafe(no_mangle)]
 pub extern "C" fn pomurica_check(trace: &[u8], report: &mut [u8]) -> u32
     ensures returns { result ≡ check_returns trace.now report.old }
     ensures leaves { report.new ≡ check_leaves trace.now report.old }
     ensures exact { length report.old ≡ report_size → (result ≡ 0) ↔ PublishedInOne trace.now }
 {
-    if report.len() != REPORT_SIZE {
-        return number::BAD_SIZE;
-    }
+    let Some(report) = report.as_mut_array::<REPORT_SIZE>() else {
+        return Refusal::BadSize.number();
+    };
     let found = trace::check(trace);
     put_report(report, found);
     found.number

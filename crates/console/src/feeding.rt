@@ -1,11 +1,10 @@
-// A trace judged as it arrives, for C: a session that the caller lends. It is stored whole, or taken apart for a function that
-// knows no reference to it.
+// A trace judged as it arrives, for C: a session that the caller lends.
 ghost use Rattle.std.specs.Prelude.{◌≡◌};
 ghost use Rattle.console.specs.Session.{Opens, Feeds, Closes, close_returns, close_leaves, close_keeps};
 
 use crate::check::{REPORT_SIZE, put_report};
 use records::session::{Progress, Session};
-use state::number;
+use state::refusal::{DONE, Refusal};
 
 // Begins a trace, whatever the session held.
 #[unsafe(no_mangle)]
@@ -13,7 +12,7 @@ pub extern "C" fn pomurica_open(session: &mut Session) -> u32
     ensures { Opens result session.new }
 {
     *session = session::open();
-    number::DONE
+    DONE
 }
 
 // The next bytes. Returns 0 until a fault is known, and then its number; CLOSED after closing.
@@ -31,30 +30,20 @@ pub extern "C" fn pomurica_feed(session: &mut Session, bytes: &[u8]) -> u32
     session::feed_number(progress)
 }
 
-// A session's numbers after closing, and what is returned.
-#[derive(Clone, Copy)]
-struct Closing {
-    progress: Progress,
-    number: u32,
-}
-
-fn close_into(p: Progress, report: &mut [u8]) -> Closing
-    ensures returns { result.number ≡ close_returns p report.old }
-    ensures keeps { result.progress ≡ close_keeps p report.old }
-    ensures leaves { report.new ≡ close_leaves p report.old }
+// What closing makes of a session's numbers, and of the report; returns the number.
+#[tactic(auto, unfolding(crate::proofs::Telling::closing))]
+fn close_into(progress: &mut Progress, report: &mut [u8]) -> u32
+    ensures returns { result ≡ close_returns progress.old report.old }
+    ensures keeps { progress.new ≡ close_keeps progress.old report.old }
+    ensures leaves { report.new ≡ close_leaves progress.old report.old }
 {
-    if report.len() != REPORT_SIZE {
-        return Closing {
-            progress: p,
-            number: number::BAD_SIZE,
-        };
-    }
-    let found = session::close(p);
+    let Some(report) = report.as_mut_array::<REPORT_SIZE>() else {
+        return Refusal::BadSize.number();
+    };
+    let found = session::close(*progress);
     put_report(report, found);
-    Closing {
-        progress: session::shut(p),
-        number: found.number,
-    }
+    *progress = session::shut(*progress);
+    found.number
 }
 
 // The end of the trace: returns the number, and writes number, place and Steps. A report that is not 12 bytes answers BAD_SIZE
@@ -63,7 +52,5 @@ fn close_into(p: Progress, report: &mut [u8]) -> Closing
 pub extern "C" fn pomurica_close(session: &mut Session, report: &mut [u8]) -> u32
     ensures { Closes session.old report.old result session.new report.new }
 {
-    let closing = close_into(session.progress, report);
-    session.progress = closing.progress;
-    closing.number
+    close_into(&mut session.progress, report)
 }

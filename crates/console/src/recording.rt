@@ -4,7 +4,7 @@ ghost use Rattle.recorder.specs.Recorded.{Recorded};
 
 use recorder::{begin, finish, go_on};
 use rules::event::Event;
-use state::number;
+use state::refusal::DONE;
 
 // The trace of the events from the block on, written into the buffer from the offset on: DONE, whatever each of them answers. A
 // block not of 180 bytes, more than 65,535 events, and too little room, in this order, are refused and change nothing.
@@ -17,16 +17,12 @@ pub extern "C" fn pomurica_record(
 ) -> u32
     ensures { Recorded new_layout block.now events.now buffer.old offset result buffer.new }
 {
-    let n = begin(block, events.len(), buffer, offset);
-    if n != number::DONE {
-        return n;
+    if let Err(refusal) = begin(block, events.len(), buffer, offset) {
+        return refusal.number();
     }
-    let mut i = 0;
-    while i < events.len() {
-        let e = events[i];
-        go_on(buffer, offset, i, e);
-        i = i + 1;
+    for (i, e) in events.iter().enumerate() {
+        go_on(buffer, offset, i, *e);
     }
     finish(buffer, offset, events.len());
-    number::DONE
+    DONE
 }

@@ -1,22 +1,22 @@
--- Lines from the last word to the first: the lines of the words passed stand at the end of the text, and there is room for
--- sixteen bytes a word.
+-- Lines from the last word to the first: the text is the lines of the words passed, and there is room for sixteen bytes a
+-- word.
 use Rattle.std.specs.Prelude.{if◌then◌else◌}
 use mathlib.Core.Path.{◌≡◌, sym, ap, ◌∙◌}
 use mathlib.Core.Bool.{Bool, true, false}
-use mathlib.Core.List.{List, [], ◌∷◌, ◌++◌, append-nil}
+use mathlib.Core.List.{List, [], ◌∷◌, ◌++◌}
 use Prim.Native.Nat.{ℕ, zero, suc, ◌+◌, ◌-◌, ◌*◌, ◌/◌, ◌%◌, ◌<◌, ◌≤◌}
 use native.Mathlib.Omega.{arith}
 use lib.ListN.{length, take, drop, length-append}
-use lib.Seq.{drop-length, take-length}
+use lib.Seq.{take-length}
 use lib.Dec.{eqb}
 use borrow.Author.Tests.{eq-eqb, ne_eqb, lt-ltb, le-ltb}
 use Rattle.words.specs.Word.{word}
 use Rattle.state.specs.Number.{DONE, BAD_SIZE, NO_ROOM}
 use Rattle.counts.specs.Counts.{GROUP_SIZE, WORDS, COUNTS_SIZE}
 use Rattle.count_lines.specs.Lines.{SPACE, LINE_END, decimal, field, line, line_of, lines_from, lines, lines_return, lines_leave}
-use Rattle.count_lines.specs.Parts.{TEXT_SIZE, Pushed}
-use Rattle.count_lines.specs.declared.Written.{Written}
-use Rattle.count_lines.proofs.Pushing.{pushed_none, pushed_then, digits_few, decimal_one, decimal_two}
+use Rattle.count_lines.specs.Lines.{Written}
+use Rattle.count_lines.specs.Parts.{TEXT_SIZE}
+use Rattle.count_lines.proofs.Pushing.{digits_few, decimal_one, decimal_two}
 
 -- ---- how long they are
 
@@ -57,15 +57,15 @@ lines_few (suc m) w counts l =
 
 -- ---- the words passed
 
-module _ (t counts : List ℕ) where
-  -- the words from w on have their lines at the end of the text
-  pub record Lined (u : List ℕ) (first w : ℕ) : Type 0 where
+module _ (counts : List ℕ) where
+  -- the text is the lines of the words from w on
+  pub record Lined (u : List ℕ) (w : ℕ) : Type 0 where
     pub few : w ≤ WORDS
-    pub pushed : Pushed t TEXT_SIZE (lines_from (WORDS - w) w counts) u first
+    pub is : u ≡ lines_from (WORDS - w) w counts
 
-  pub lined_none : Lined t TEXT_SIZE WORDS
+  pub lined_none : (u : List ℕ) → u ≡ [] → Lined u WORDS
   unfolding lines_from
-  lined_none = record { few = omega arith; pushed = pushed_none t TEXT_SIZE }
+  lined_none u e = record { few = omega arith; is = e }
 
   next_lines : (w : ℕ) → 0 < w → w ≤ WORDS
       → lines_from (WORDS - (w - 1)) (w - 1) counts ≡ line_of counts (w - 1) ++ lines_from (WORDS - w) w counts
@@ -76,39 +76,41 @@ module _ (t counts : List ℕ) where
       ap (λ (k : ℕ). lines_from k (w - 1) counts) m
       ∙ ap (λ (k : ℕ). line_of counts (w - 1) ++ lines_from (WORDS - w) k counts) n
 
-  module _ (u : List ℕ) (first w : ℕ) (h : Lined u first w) (l : 0 < w) where
-    pub lined_room : length t ≡ TEXT_SIZE → (n : ℕ)
-        → (length (line ((w - 1) / GROUP_SIZE + 1) ((w - 1) % GROUP_SIZE) n) ≤ first) × (first ≤ length u)
-    lined_room size n =
-        let p = h.pushed in
-        let few = lines_few (WORDS - w) w counts (omega (arith, h.few)) in
-        let one = line_few (w - 1) n (omega (arith, h.few)) in
-        (omega (arith, p.from, h.few), omega (arith, p.from, p.size))
+  module _ (u : List ℕ) (w : ℕ) (h : Lined u w) (l : 0 < w) where
+    pub lined_room : (n : ℕ) → length (line ((w - 1) / GROUP_SIZE + 1) ((w - 1) % GROUP_SIZE) n) + length u ≤ TEXT_SIZE
+    lined_room n =
+        omega (
+          arith,
+          h.few,
+          ap length h.is,
+          lines_few (WORDS - w) w counts (omega (arith, h.few)),
+          line_few (w - 1) n (omega (arith, h.few)),
+        )
 
-    pub lined_next : (x : ℕ) → x ≡ word counts (w - 1) → (x ≡ 0 → ⊥) → (v : List ℕ) (to : ℕ)
-        → Pushed u first (line ((w - 1) / GROUP_SIZE + 1) ((w - 1) % GROUP_SIZE) x) v to
-        → Lined v to (w - 1)
+    pub lined_next : (x : ℕ) → x ≡ word counts (w - 1) → (x ≡ 0 → ⊥) → (v : List ℕ)
+        → v ≡ line ((w - 1) / GROUP_SIZE + 1) ((w - 1) % GROUP_SIZE) x ++ u
+        → Lined v (w - 1)
     unfolding line_of
-    lined_next x e n v to p =
+    lined_next x e n v p =
         let this : List ℕ = line ((w - 1) / GROUP_SIZE + 1) ((w - 1) % GROUP_SIZE) (word counts (w - 1)) in
         let is : line ((w - 1) / GROUP_SIZE + 1) ((w - 1) % GROUP_SIZE) x ≡ line_of counts (w - 1) =
         ap (line ((w - 1) / GROUP_SIZE + 1) ((w - 1) % GROUP_SIZE)) e
         ∙ ap (λ (b : Bool). if b then [] else this) (sym (ne_eqb (word counts (w - 1)) 0 (λ z. n (e ∙ z)))) in
-        record { few = omega (arith, h.few); pushed = rw (next_lines w l h.few) (pushed_then h.pushed (rw is at p)) }
+        record { few = omega (arith, h.few); is = p ∙ (λ i. is i ++ h.is i) ∙ sym (next_lines w l h.few) }
 
-    pub lined_same : (x : ℕ) → x ≡ word counts (w - 1) → x ≡ 0 → Lined u first (w - 1)
+    pub lined_same : (x : ℕ) → x ≡ word counts (w - 1) → x ≡ 0 → Lined u (w - 1)
     unfolding line_of
     lined_same x e z =
         let this : List ℕ = line ((w - 1) / GROUP_SIZE + 1) ((w - 1) % GROUP_SIZE) (word counts (w - 1)) in
         let is : line_of counts (w - 1) ≡ [] =
         ap (λ (b : Bool). if b then [] else this) (eq-eqb (word counts (w - 1)) 0 (sym e ∙ z)) in
         let same = next_lines w l h.few ∙ ap (λ (s : List ℕ). s ++ lines_from (WORDS - w) w counts) is in
-        record { few = omega (arith, h.few); pushed = rw same h.pushed }
+        record { few = omega (arith, h.few); is = h.is ∙ sym same }
 
-  pub lined_all : (u : List ℕ) (first w : ℕ) → Lined u first w → w ≤ 0 → Pushed t TEXT_SIZE (lines counts) u first
-  lined_all u first w h l =
+  pub lined_all : (u : List ℕ) (w : ℕ) → Lined u w → w ≤ 0 → u ≡ lines counts
+  lined_all u w h l =
       let z : w ≡ 0 = omega arith in
-      rw z at h.pushed
+      rw z at h.is
 
 -- ---- the answers
 
@@ -127,33 +129,22 @@ module _ (counts room : List ℕ) where
   unfolding lines_return
   put_bad_size n = left (record { number = BAD_SIZE; size = 0 }) (simp (ne_eqb (length counts) COUNTS_SIZE n)) (λ e. omega arith)
 
-  -- the text that was made, from its first byte on, is the lines
-  module _ (size : length counts ≡ COUNTS_SIZE) (t u : List ℕ) (first : ℕ) (l : length t ≡ TEXT_SIZE)
-      (p : Pushed t TEXT_SIZE (lines counts) u first) where
-    text_is : drop first u ≡ lines counts
-    text_is =
-        p.text ∙ ap (λ (r : List ℕ). lines counts ++ r) (ap (λ (k : ℕ). drop k t) (sym l) ∙ drop-length t)
-        ∙ append-nil (lines counts)
-
-    pub size_is : TEXT_SIZE - first ≡ length (lines counts)
-    size_is = omega (arith, p.from)
-
-    pub put_no_room : length room < TEXT_SIZE - first → Puts (record { number = NO_ROOM; size = 0 }) room
+  -- the text that was made is the lines
+  module _ (size : length counts ≡ COUNTS_SIZE) (s : List ℕ) (is : s ≡ lines counts) where
+    pub put_no_room : length room < length s → Puts (record { number = NO_ROOM; size = 0 }) room
     unfolding lines_return
     put_no_room n =
         left (record { number = NO_ROOM; size = 0 })
-        (simp (eq-eqb (length counts) COUNTS_SIZE size, lt-ltb (length room) (length (lines counts)) (omega (arith, size_is))))
+        (simp (eq-eqb (length counts) COUNTS_SIZE size, lt-ltb (length room) (length (lines counts)) (rw is at n)))
         (λ e. omega arith)
 
-    pub put_done : TEXT_SIZE - first ≤ length room → (s r : List ℕ) → s ≡ drop first u
-        → r ≡ take (length s) s ++ drop (length s) room
-        → Puts (record { number = DONE; size = TEXT_SIZE - first }) r
+    pub put_done : length s ≤ length room → (r : List ℕ) → r ≡ take (length s) s ++ drop (length s) room
+        → Puts (record { number = DONE; size = length s }) r
     unfolding lines_return lines_leave
-    put_done n s r e c =
-        let is : s ≡ lines counts = e ∙ text_is in
-        let number : record { number = DONE; size = TEXT_SIZE - first } ≡ lines_return counts room =
-        (λ i. record { number = DONE; size = size_is i })
-        ∙ simp (eq-eqb (length counts) COUNTS_SIZE size, le-ltb (length room) (length (lines counts)) (omega (arith, size_is))) in
+    put_done n r c =
+        let number : record { number = DONE; size = length s } ≡ lines_return counts room =
+        (λ i. record { number = DONE; size = length (is i) })
+        ∙ simp (eq-eqb (length counts) COUNTS_SIZE size, le-ltb (length room) (length (lines counts)) (rw is at n)) in
         let q = ap (λ (x : Written). x.number) number in
         let t = eq-eqb (lines_return counts room).number DONE (sym q) in (
           number,

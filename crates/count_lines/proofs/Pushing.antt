@@ -1,48 +1,16 @@
--- A text that is made from the back: what is put before it stands before it.
+-- A number in decimal is put before a text from its last digit on.
 use Rattle.std.specs.Prelude.{if◌then◌else◌}
 use mathlib.Core.Path.{◌≡◌, refl, sym, ap, ◌∙◌}
 use mathlib.Core.Bool.{Bool, true, false}
 use mathlib.Core.List.{List, [], ◌∷◌, ◌++◌, append_assoc, append-nil}
-use Prim.Native.Nat.{ℕ, zero, suc, ◌+◌, ◌-◌, ◌/◌, ◌%◌, ◌<◌, ◌≤◌, ◌^◌}
+use Prim.Native.Nat.{ℕ, zero, suc, ◌+◌, ◌/◌, ◌%◌, ◌<◌, ◌≤◌, ◌^◌}
 use native.Mathlib.Omega.{arith}
 use native.Mathlib.Nat.{pow-suc, pow-zero}
-use lib.ListN.{length, drop, set, length-append, length-set}
-use lib.Seq.{drop-cons, get_or-set_same}
+use lib.ListN.{length, length-append}
 use lib.Dec.{ltb}
 use borrow.Author.Tests.{lt-ltb, le-ltb, ltb-true, ltb-false}
 use Rattle.count_lines.specs.Lines.{ZERO, digits, decimal}
-use Rattle.count_lines.specs.Parts.{Pushed}
-
--- ---- one byte, and one text after another
-
-drop-set : (t : List ℕ) (i x : ℕ) → drop (suc i) (set t i x) ≡ drop (suc i) t
-drop-set [] i x = refl
-drop-set (y ∷ t) zero x = refl
-drop-set (y ∷ t) (suc i) x = drop-set t i x
-
-pub push_one : (t : List ℕ) (at x : ℕ) → 1 ≤ at → at ≤ length t → Pushed t at (x ∷ []) (set t (at - 1) x) (at - 1)
-push_one t at x l h =
-    let i : ℕ = at - 1 in
-    let next : suc i ≡ at = omega arith in
-    let inside : i < length (set t i x) = omega (arith, length-set t i x) in
-    record {
-      size = length-set t i x;
-      from = omega arith;
-      text = drop-cons (set t i x) i 0 inside
-          ∙ (λ j. get_or-set_same t i x 0 (omega arith) j ∷ (drop-set t i x ∙ ap (λ (k : ℕ). drop k t) next) j);
-    }
-
-pub pushed_none : (t : List ℕ) (at : ℕ) → Pushed t at [] t at
-pushed_none t at = record { size = refl; from = omega arith; text = refl }
-
-pub pushed_then : {t u v s r : List ℕ} {at to first : ℕ} → Pushed t at s u to → Pushed u to r v first
-    → Pushed t at (r ++ s) v first
-pushed_then {t} {u} {v} {s} {r} {at} {to} {first} p q =
-    record {
-      size = q.size ∙ p.size;
-      from = omega (arith, length-append r s, q.from, p.from);
-      text = q.text ∙ ap (λ (x : List ℕ). r ++ x) p.text ∙ sym (append_assoc r s (drop at t));
-    }
+use Rattle.count_lines.specs.Parts.{TEXT_SIZE}
 
 -- ---- a number in decimal
 
@@ -83,25 +51,25 @@ decimal_two n l = go (ltb n 10) refl
           ap length (one_digit 8 (n / 10) (omega arith)),
         )
 
--- what was put before the text, and what of the number is left
-pub record Written (t : List ℕ) (at n : ℕ) (u : List ℕ) (first rest : ℕ) : Type 0 where
+-- what was put before the text t, so that it is u, and what of the number is left
+pub record Written (t : List ℕ) (n : ℕ) (u : List ℕ) (rest : ℕ) : Type 0 where
   pub most : ℕ
   pub low : rest < 10 ^ suc most
   pub done : List ℕ
-  pub pushed : Pushed t at done u first
+  pub is : u ≡ done ++ t
   pub parts : decimal n ≡ digits (suc most) rest ++ done
 
-pub written_none : (t : List ℕ) (at n : ℕ) → n < 2 ^ 32 → Written t at n t at n
-written_none t at n l =
+pub written_none : (t : List ℕ) (n : ℕ) → n < 2 ^ 32 → Written t n t n
+written_none t n l =
     record {
       most = 9;
       low = omega arith;
       done = [];
-      pushed = pushed_none t at;
+      is = refl;
       parts = sym (append-nil (decimal n));
     }
 
-module _ (t : List ℕ) (at n : ℕ) (u : List ℕ) (first rest : ℕ) (w : Written t at n u first rest) where
+module _ (t : List ℕ) (n : ℕ) (u : List ℕ) (rest : ℕ) (w : Written t n u rest) where
   -- there is room for one digit more
   left : 1 ≤ length (digits (suc w.most) rest)
   unfolding digits
@@ -112,30 +80,28 @@ module _ (t : List ℕ) (at n : ℕ) (u : List ℕ) (first rest : ℕ) (w : Writ
       go true = omega arith
       go false = omega (arith, length-append (digits w.most (rest / 10)) ((ZERO + rest % 10) ∷ []))
 
-  pub written_room : length (decimal n) ≤ at → at ≤ length t → (1 ≤ first) × (first ≤ length u)
-  written_room l h =
-      let p = w.pushed in
-      let n = ap length w.parts in
+  pub written_room : length (decimal n) + length t ≤ TEXT_SIZE → length u < TEXT_SIZE
+  written_room l =
       let d = length-append (digits (suc w.most) rest) w.done in
-      (omega (arith, left, n, d, p.from), omega (arith, p.from, p.size))
+      omega (arith, left, ap length w.parts, d, ap length w.is, length-append w.done t)
 
-  pub written_next : 10 ≤ rest → (v : List ℕ) (to : ℕ) → Pushed u first ((ZERO + rest % 10) ∷ []) v to
-      → Written t at n v to (rest / 10)
-  written_next l v to p = go w.most w.low w.parts
+  pub written_next : 10 ≤ rest → (v : List ℕ) → v ≡ (ZERO + rest % 10) ∷ u → Written t n v (rest / 10)
+  written_next l v e = go w.most w.low w.parts
     where
-      go : (m : ℕ) → rest < 10 ^ suc m → decimal n ≡ digits (suc m) rest ++ w.done → Written t at n v to (rest / 10)
+      go : (m : ℕ) → rest < 10 ^ suc m → decimal n ≡ digits (suc m) rest ++ w.done → Written t n v (rest / 10)
       go zero low parts = absurd (omega (arith, pow-suc 10 0, pow-zero 10))
       go (suc m) low parts =
           record {
             most = m;
             low = omega (arith, pow-suc 10 (suc m));
             done = (ZERO + rest % 10) ∷ w.done;
-            pushed = pushed_then w.pushed p;
+            is = e ∙ ap (λ (x : List ℕ). (ZERO + rest % 10) ∷ x) w.is;
             parts = parts
                 ∙ ap (λ (x : List ℕ). x ++ w.done) (more_digits (suc m) rest l)
                 ∙ append_assoc (digits (suc m) (rest / 10)) ((ZERO + rest % 10) ∷ []) w.done;
           }
 
-  pub written_last : rest < 10 → (v : List ℕ) (to : ℕ) → Pushed u first ((ZERO + rest) ∷ []) v to → Pushed t at (decimal n) v to
-  written_last l v to p =
-      rw (w.parts ∙ ap (λ (x : List ℕ). x ++ w.done) (one_digit w.most rest l)) (pushed_then w.pushed p)
+  pub written_last : rest < 10 → (v : List ℕ) → v ≡ (ZERO + rest) ∷ u → v ≡ decimal n ++ t
+  written_last l v e =
+      e ∙ ap (λ (x : List ℕ). (ZERO + rest) ∷ x) w.is
+      ∙ ap (λ (x : List ℕ). x ++ t) (sym (w.parts ∙ ap (λ (x : List ℕ). x ++ w.done) (one_digit w.most rest l)))

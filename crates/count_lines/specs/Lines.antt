@@ -1,11 +1,12 @@
 -- The counts as lines (document 02, No. 1): "one line per non-zero count: the group 1 to 4, the number within it, the count,
 -- in decimal, with single spaces between; groups in the order just given, numbers rising within each".
-use Rattle.std.specs.Prelude.{not, List, [], ◌∷◌, ◌++◌, ℕ, zero, suc, ◌+◌, ◌/◌, ◌%◌, length, drop, ltb, if◌then◌else◌}
+use Rattle.std.specs.Prelude.{Result, Ok, Err, not, List, [], ◌∷◌, ◌++◌, ℕ, zero, suc, ◌+◌, ◌/◌, ◌%◌, length, drop, ltb, if◌then◌else◌}
 use Rattle.words.specs.Word.{word}
 use Rattle.state.specs.Choice.{◌is◌}
 use Rattle.state.specs.Number.{DONE, BAD_SIZE, NO_ROOM}
+use Rattle.state.specs.Refusal as refusal
+use Rattle.state.specs.declared.refusal.Refusal.{Refusal}
 use Rattle.counts.specs.Counts.{GROUP_SIZE, WORDS, COUNTS_SIZE}
-use Rattle.count_lines.specs.declared.Written.{Written}
 
 -- ---- letters
 
@@ -51,6 +52,16 @@ abbrev pub lines : List ℕ → List ℕ
 lines counts = lines_from WORDS 0 counts
 
 -- ---- into a lent room
+
+-- what came of it: the number, and how many bytes were written
+pub record Written : Type 0 where
+  pub number : ℕ
+  pub size : ℕ
+
+-- the same of the code's answer
+abbrev pub written : Result ℕ Refusal → Written
+written (Ok size) = record { number = DONE; size = size }
+written (Err r) = record { number = refusal.number r; size = 0 }
 
 -- the number, and how many bytes were written
 unfoldable pub lines_return : List ℕ → List ℕ → Written

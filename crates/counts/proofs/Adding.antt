@@ -41,7 +41,6 @@ below_next a b false w x y p q f h = ((λ e. never e), (λ g. h.1 (λ j l. g j (
 module _ (a b : List ℕ) where
   -- the words below w are sums, the others as they were
   pub record Added (c : List ℕ) (w : ℕ) : Type 0 where
-    pub few : w ≤ WORDS
     pub size : length c ≡ COUNTS_SIZE
     pub bytes : Bytes c
     pub sums : (j : ℕ) → j < w → word c j ≡ word a j + word b j
@@ -50,7 +49,6 @@ module _ (a b : List ℕ) where
   pub added_none : length a ≡ COUNTS_SIZE → Bytes a → Added a 0
   added_none l by =
       record {
-        few = omega arith;
         size = l;
         bytes = by;
         sums = λ j h. absurd (omega arith);
@@ -66,7 +64,6 @@ module _ (a b : List ℕ) where
       let is : d ≡ put c w (word a w + word b w) = e ∙ ap (put c w) sum in
       let same = word-put_same c w (word a w + word b w) (omega (arith, h.size)) (fits w l) in
       record {
-        few = omega arith;
         size = ap length is ∙ length-put c w (word a w + word b w) ∙ h.size;
         bytes = rw is (bytes_put c w (word a w + word b w) h.bytes);
         sums = below_more (λ (j : ℕ). word d j ≡ word a j + word b j) w
@@ -98,7 +95,7 @@ pub added_all : (a b c : List ℕ) (w : ℕ) → WORDS ≤ w → Added a b c w
     → c ≡ spell_words WORDS 0 (λ (j : ℕ). word a j + word b j)
 added_all a b c w l h =
     spelt_words WORDS 0 c h.bytes h.size
-    ∙ same_words WORDS 0 (word c) (λ (j : ℕ). word a j + word b j) (λ j k. h.sums j (omega (arith, h.few)))
+    ∙ same_words WORDS 0 (word c) (λ (j : ℕ). word a j + word b j) (λ j k. h.sums j (omega arith))
 
 -- a word of what is spelt
 module _ (x : ℕ) (t : List ℕ) where

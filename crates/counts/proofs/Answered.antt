@@ -1,6 +1,6 @@
 -- What the rules answer has a word in each group: numbers are below 18, and the value of an exception tells a mode and an
 -- exception that are below 32.
-use Rattle.std.specs.Prelude.{if◌then◌else◌}
+use Rattle.std.specs.Prelude.{Option, if◌then◌else◌}
 use mathlib.Core.Path.{◌≡◌, refl, ap, ◌∙◌, subst}
 use mathlib.Core.Bool.{Bool, true, false, not, ◌&&◌, ◌||◌}
 use mathlib.Core.List.{List, [], ◌∷◌}
@@ -16,7 +16,6 @@ use Rattle.state.specs.Place.{CPSR, SCR, HCR}
 use Rattle.entry.specs.Code.{is_synchronous, BANKED_READ}
 use Rattle.entry.specs.Way.{Way, Barred, Enter}
 use Rattle.interrupts.specs.declared.exception.Exception.{Exception}
-use Rattle.interrupts.specs.declared.check.Found.{Found}
 use Rattle.interrupts.proofs.Laws.{found_cases}
 use Rattle.rules.specs.declared.event.Event.{Event}
 use Rattle.rules.specs.Known.{unknown, seen, NO_CODE}
@@ -75,7 +74,7 @@ done_no_read : (b : List ℕ) (code a w : ℕ) → (code ≡ BANKED_READ → ⊥
     → NoRead (done_action b (record { code = code; a = a; b = w }))
 done_no_read b code a w n =
     by_code NoRead b code a w
-    (λ e. found_cases (λ (f : Found). NoRead (checked_in b a f)) a (word b CPSR) (word b SCR) (word b HCR) tt
+    (λ e. found_cases (λ (f : Option Exception). NoRead (checked_in b a f)) a (word b CPSR) (word b SCR) (word b HCR) tt
     (λ x k t. taken_no_read x (interrupt_way b x)))
     (λ e. n e) (λ e. tt) (λ e. tt) (λ e. tt) (λ o. taken_no_read _ (event_way b code a))
 

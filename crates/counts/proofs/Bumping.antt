@@ -8,7 +8,7 @@ use Prim.Native.Nat.{ℕ, zero, suc, ◌+◌, ◌*◌, ◌/◌, ◌%◌, ◌<◌
 use native.Mathlib.Omega.{arith}
 use lib.ListN.{length, get_or, replicate}
 use lib.Dec.{eqb, ltb}
-use borrow.Author.Tests.{eq-eqb, ne_eqb, eqb-true, eqb-false, ltb-true, ltb-false, lt-ltb, le-ltb}
+use borrow.Author.Tests.{eq-eqb, ne_eqb, eqb-true, eqb-false, ltb-true, ltb-false}
 use Rattle.words.specs.Word.{spelt, word, put}
 use Rattle.words.proofs.Laws.{word-put_same, word-put_other, length-put}
 use Rattle.state.specs.Choice.{◌is◌}
@@ -86,23 +86,6 @@ module _ {n : ℕ} (b : List ℕ) (first number : ℕ) (t : Tally n b) (few : n 
         size = length-bumped;
         small = λ w h. omega (arith, word-bumped w h, t.small w h, one_small (hits first number w));
       }
-
--- what the code does is the bump
-module _ (b : List ℕ) (first number : ℕ) where
-  pub bump_put : (x : ℕ) (c : List ℕ) → number < GROUP_SIZE → x ≡ word b (first + number)
-      → c ≡ put b (first + number) (x + 1)
-      → c ≡ bumped b first number
-  unfolding bumped
-  bump_put x c l e p =
-      p ∙ ap (λ (y : ℕ). put b (first + number) (y + 1)) e
-      ∙ ap (λ (t : Bool). if t then put b (first + number) (word b (first + number) + 1) else b)
-      (sym (lt-ltb number GROUP_SIZE l))
-
-  pub bump_none : GROUP_SIZE ≤ number → b ≡ bumped b first number
-  unfolding bumped
-  bump_none l =
-      ap (λ (t : Bool). if t then put b (first + number) (word b (first + number) + 1) else b)
-      (sym (le-ltb number GROUP_SIZE l))
 
 -- ---- which word a bump reaches
 

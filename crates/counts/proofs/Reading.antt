@@ -2,14 +2,14 @@
 -- them.
 use Rattle.std.specs.Prelude.{if◌then◌else◌}
 use mathlib.Core.Path.{◌≡◌, refl, sym, ap, ◌∙◌}
-use mathlib.Core.Bool.{Bool, true, false, not}
+use mathlib.Core.Bool.{Bool, true, false}
 use mathlib.Core.Logic.{◌↔◌}
 use mathlib.Core.List.{List, [], ◌∷◌, ◌++◌, append_assoc}
 use Prim.Native.Nat.{ℕ, suc, ◌+◌, ◌<◌, ◌≤◌}
 use native.Mathlib.Omega.{arith}
 use lib.ListN.{length, drop}
 use lib.Dec.{eqb}
-use borrow.Author.Tests.{eq-eqb, ne_eqb, not-true, not-false}
+use borrow.Author.Tests.{eq-eqb, ne_eqb}
 use Rattle.words.specs.Word.{spelt, word, Bytes}
 use Rattle.words.proofs.Laws.{spells}
 use Rattle.words.proofs.Agree.{never}
@@ -147,18 +147,18 @@ module _ (L : Layout) (s counts : List ℕ) where
 module _ (L : Layout) (LL : Lawful L) (s counts gains : List ℕ) (by : Bytes s) (size : length counts ≡ COUNTS_SIZE)
     (v : Report) (is : v ≡ report L s) (ok : v.number ≡ DONE)
     (g : Gains (shown_steps L v.steps (drop (start_size L) s)) gains) (t : Bool) (fits : (t ≡ true) ↔ Fits counts gains) where
-  pub found_full : not t ≡ true → Answers L s counts FULL counts
+  pub found_full : t ≡ false → Answers L s counts FULL counts
   found_full h = full L s counts size v is ok (go (any_passes WORDS 0 (sum counts (steps_of L s))) refl)
     where
       go : (u : Bool) → any_passes WORDS 0 (sum counts (steps_of L s)) ≡ u → u ≡ true
       go true e = refl
       go false e =
-          never (sym (not-true t h) ∙ fits.1 (passes_fits L LL s by v is ok counts gains g e))
+          never (sym h ∙ fits.1 (passes_fits L LL s by v is ok counts gains g e))
 
-  pub found_done : not t ≡ false → (c : List ℕ) → c ≡ spell_words WORDS 0 (λ (w : ℕ). word counts w + word gains w)
+  pub found_done : t ≡ true → (c : List ℕ) → c ≡ spell_words WORDS 0 (λ (w : ℕ). word counts w + word gains w)
       → Answers L s counts DONE c
   found_done h c e =
-      let f = fits.0 (not-false t h) in
+      let f = fits.0 h in
       let d = done L s counts size v is ok (fits_passes L LL s by v is ok counts gains g f) in
       let q = same_words WORDS 0 (λ (w : ℕ). word counts w + word gains w) (sum counts (steps_of L s))
       (sums L LL s by v is ok counts gains g) in

@@ -46,25 +46,26 @@ module _ (L : Layout) where
     abbrev all : List Step
     all = shown_steps L steps (drop (start_size L) s)
 
-    -- k Steps were counted, and the next record begins at this place
-    pub record Passed (gains : List ℕ) (k at : ℕ) : Type 0 where
-      pub place : at ≡ place_of L k
-      pub few : k ≤ steps
+    -- k Steps were counted
+    pub record Passed (gains : List ℕ) (k : ℕ) : Type 0 where
       pub size : length gains ≡ COUNTS_SIZE
-      pub words : (w : ℕ) → w < WORDS → word gains w + gain (shown_steps L (steps - k) (drop at s)) w ≡ gain all w
+      pub words : (w : ℕ) → w < WORDS → word gains w + gain (shown_steps L (steps - k) (drop (place_of L k) s)) w ≡ gain all w
 
-    pub passed_none : (gains : List ℕ) → Tally 0 gains → Passed gains 0 (start_size L)
+    pub passed_none : (gains : List ℕ) → Tally 0 gains → Passed gains 0
     passed_none gains t =
         let whole : steps - 0 ≡ steps = omega arith in
+        let first : place_of L 0 ≡ start_size L = omega (arith, mul-zero (step_size L)) in
         record {
-          place = omega (arith, mul-zero (step_size L));
-          few = omega arith;
           size = t.size;
-          words = λ w l. ap (λ (m : ℕ). word gains w + gain (shown_steps L m (drop (start_size L) s)) w) whole
+          words = λ w l. (λ i. word gains w + gain (shown_steps L (whole i) (drop (first i) s)) w)
               ∙ omega (arith, t.small w l);
         }
 
-    module _ (gains : List ℕ) (k at : ℕ) (p : Passed gains k at) where
+    -- the next Step lies within the string
+    pub passed_whole : (k : ℕ) → k < steps → place_of L steps ≤ length s → place_of L k + step_size L ≤ length s
+    passed_whole k less whole = omega (arith, mul-suc (step_size L) k, mul-le-mul_left (step_size L) less)
+
+    module _ (gains : List ℕ) (k : ℕ) (p : Passed gains k) where
       pub passed_tally : steps ≤ most_steps → Tally 65535 gains
       passed_tally most =
           record {
@@ -77,27 +78,16 @@ module _ (L : Layout) where
             );
           }
 
-      -- the next Step lies within the string
-      pub passed_whole : k < steps → place_of L steps ≤ length s → at + step_size L ≤ length s
-      passed_whole less whole =
-          omega (arith, p.place, mul-suc (step_size L) k, mul-le-mul_left (step_size L) less)
-
-      pub passed_next : k < steps → (c : List ℕ) → Counted gains (shown_step (drop at s)) c → (size : ℕ) → size ≡ step_size L
-          → Passed c (k + 1) (at + size)
-      passed_next less c n size is =
-          rw is
-          (record {
-            place = omega (arith, p.place, mul-suc (step_size L) k, add-one k);
-            few = omega arith;
-            size = n.size;
-            words = next;
-          })
+      pub passed_next : k < steps → (c : List ℕ) → Counted gains (shown_step (drop (place_of L k) s)) c → Passed c (k + 1)
+      passed_next less c n = record { size = n.size; words = next }
         where
           next : (w : ℕ) → w < WORDS
-              → word c w + gain (shown_steps L (steps - (k + 1)) (drop (at + step_size L) s)) w ≡ gain all w
+              → word c w + gain (shown_steps L (steps - (k + 1)) (drop (place_of L (k + 1)) s)) w ≡ gain all w
           next w l =
+              let at : ℕ = place_of L k in
               let m : steps - k - 1 ≡ steps - (k + 1) = omega arith in
-              let r = drop-drop (step_size L) at s in
+              let to : at + step_size L ≡ place_of L (k + 1) = omega (arith, mul-suc (step_size L) k, add-one k) in
+              let r = drop-drop (step_size L) at s ∙ ap (λ (n : ℕ). drop n s) to in
               let left = gain_next (steps - k) (drop at s) w (omega arith)
               ∙ (λ i. one (counted (w / GROUP_SIZE + 1) (w % GROUP_SIZE) (shown_step (drop at s))) + gain (shown_steps L (m i) (r i)) w) in
               omega (arith, n.more w l, left, p.words w l)
@@ -106,5 +96,5 @@ module _ (L : Layout) where
       passed_all done =
           record {
             size = p.size;
-            words = λ w l. omega (arith, p.words w l, gain_none (steps - k) (drop at s) w (omega (arith, p.few)));
+            words = λ w l. omega (arith, p.words w l, gain_none (steps - k) (drop (place_of L k) s) w (omega arith));
           }

@@ -1,6 +1,7 @@
 -- What the inner functions of the counting ask and answer. Nobody has to believe these: the contracts of the public
 -- functions cite Counts.antt alone.
-use Rattle.std.specs.Prelude.{◌≡◌, List, [], ◌∷◌, ℕ, zero, suc, ◌+◌, ◌/◌, ◌%◌, ◌<◌, ◌≤◌, ◌^◌, length, drop, ltb, if◌then◌else◌}
+use Rattle.std.specs.Prelude.{Option, None, Some, ◌≡◌, List, [], ◌∷◌, ℕ, zero, suc, length, drop, ltb, if◌then◌else◌}
+use Rattle.std.specs.Prelude.{◌+◌, ◌/◌, ◌%◌, ◌<◌, ◌≤◌, ◌^◌}
 use Rattle.words.specs.Word.{spelt, word, put}
 use Rattle.records.specs.Layout.{Layout, step_size, number_at, value_at}
 use Rattle.records.specs.Report.{event_of}
@@ -62,3 +63,8 @@ pub record Gains (ss : List Step) (b : List ℕ) : Type 0 where
 -- no sum of two words of the same place passes 4,294,967,295
 abbrev pub Fits : List ℕ → List ℕ → Type 0
 Fits a b = (w : ℕ) → w < WORDS → word a w + word b w < 2 ^ 32
+
+-- a number that there may be, or one that has no word
+abbrev pub or_nowhere : Option ℕ → ℕ
+or_nowhere None = NOWHERE
+or_nowhere (Some number) = number

@@ -1,7 +1,8 @@
 // What the Steps of one trace add to each word. A trace has at most 65,535 Steps, so that no word of a tally overflows.
-ghost use Rattle.std.specs.Prelude.{◌≡◌, ◌+◌, ◌*◌, ◌/◌, ◌%◌, ◌≤◌, length, drop, if◌then◌else◌};
+ghost use Rattle.std.specs.Prelude.{◌≡◌, ◌+◌, ◌≤◌, length, drop, if◌then◌else◌};
 ghost use Rattle.entry.specs.Code.{is_known, is_synchronous};
-ghost use Rattle.records.specs.Layout.{layout, start_size, most_steps, place_of, block_after_at};
+ghost use Rattle.records.specs.Layout.{start_size, most_steps, place_of, block_after_at};
+ghost use Rattle.records.specs.Which.{its};
 ghost use Rattle.counts.specs.Counts.{WORDS, GROUP_SIZE as group_size};
 ghost use Rattle.counts.specs.Parts.{
   shown_step,
@@ -9,6 +10,7 @@ ghost use Rattle.counts.specs.Parts.{
   step_of,
   target_number,
   taken_number,
+  or_nowhere,
   bumped,
   Tally,
   Counted,
@@ -18,8 +20,8 @@ ghost use Rattle.counts.specs.Parts.{
 use crate::places::GROUP_SIZE;
 use entry::code;
 use records::layout;
-use records::layout::{start_size, step_size};
-use state::number::DONE;
+use records::layout::Layout;
+use state::refusal::DONE;
 use words::{get_word, put_word, word_at};
 
 // The first number that has no word in its group.
@@ -36,6 +38,7 @@ const BY_TAKEN: usize = 3 * GROUP_SIZE;
 
 // One more under this number of a group; a number without a word counts nowhere. No word overflows: a Step finds
 // none above 65,535 and bumps four times, so that before the last of them none is above 65,538.
+#[tactic(auto, unfolding(crate::specs::Parts::bumped))]
 fn bump(gains: &mut [u8], first: usize, number: u32)
     requires { (first + group_size ≤ WORDS) × Tally 65538 gains.old }
     ensures { gains.new ≡ bumped gains.old first number }
@@ -43,6 +46,17 @@ fn bump(gains: &mut [u8], first: usize, number: u32)
     if number < NOWHERE {
         let at = first + (number as usize);
         put_word(gains, at, get_word(gains, at) + 1);
+    }
+}
+
+// The same under the number that there may be.
+#[tactic(auto, unfolding(crate::specs::Parts::bumped))]
+fn bump_if(gains: &mut [u8], first: usize, number: Option<u32>)
+    requires { (first + group_size ≤ WORDS) × Tally 65538 gains.old }
+    ensures { gains.new ≡ bumped gains.old first (or_nowhere number) }
+{
+    if let Some(number) = number {
+        bump(gains, first, number);
     }
 }
 
@@ -56,42 +70,41 @@ fn code_number(code: u32) -> u32
 fn is_synchronous(code: u32) -> bool
     ensures { result ≡ is_synchronous code }
 {
-    if code < code::UNDEFINED_INSTRUCTION {
-        return false;
-    }
-    code <= code::MONITOR_TRAP
+    code::UNDEFINED_INSTRUCTION <= code && code <= code::MONITOR_TRAP
 }
 
-// The number that an answer counts under among the entries: the target mode of an entry, and else NOWHERE.
-fn target_number(code: u32, number: u32, value: u32) -> u32
-    ensures { result ≡ target_number (step_of code number value) }
+// The number that an answer counts under among the entries: the target mode of an entry.
+#[tactic(auto, unfolding(crate::specs::Parts::target_number))]
+fn target_number(code: u32, number: u32, value: u32) -> Option<u32>
+    ensures { or_nowhere result ≡ target_number (step_of code number value) }
 {
     if number != DONE {
-        return NOWHERE;
+        return None;
     }
     if is_synchronous(code) {
-        return value / 256 % 256;
+        return Some(value / 256 % 256);
     }
     if code != code::INTERRUPT_CHECK {
-        return NOWHERE;
+        return None;
     }
     if value == 0 {
-        return NOWHERE;
+        return None;
     }
-    value / 256 % 256
+    Some(value / 256 % 256)
 }
 
 // The same among the done interrupt checks: which exception was taken, 0 for none.
-fn taken_number(code: u32, number: u32, value: u32) -> u32
-    ensures { result ≡ taken_number (step_of code number value) }
+#[tactic(auto, unfolding(crate::specs::Parts::taken_number))]
+fn taken_number(code: u32, number: u32, value: u32) -> Option<u32>
+    ensures { or_nowhere result ≡ taken_number (step_of code number value) }
 {
     if number != DONE {
-        return NOWHERE;
+        return None;
     }
     if code != code::INTERRUPT_CHECK {
-        return NOWHERE;
+        return None;
     }
-    value / 65536
+    Some(value / 65536)
 }
 
 // The Step of either layout that these bytes begin with, counted in each group that it belongs to.
@@ -104,21 +117,16 @@ fn count_step(r: &[u8], gains: &mut [u8])
     let value = word_at(r, layout::VALUE);
     bump(gains, BY_CODE, code_number(code));
     bump(gains, BY_ANSWER, number);
-    bump(gains, BY_TARGET, target_number(code, number, value));
-    bump(gains, BY_TAKEN, taken_number(code, number, value));
+    bump_if(gains, BY_TARGET, target_number(code, number, value));
+    bump_if(gains, BY_TAKEN, taken_number(code, number, value));
 }
 
 // All Steps of a trace that has so many, in a layout.
-pub(crate) fn count_steps(old: bool, trace: &[u8], steps: u32, gains: &mut [u8])
-    requires { (steps ≤ most_steps) × (place_of (layout old) steps ≤ length trace.now) × Tally 0 gains.old }
-    ensures { Gains (shown_steps (layout old) steps (drop (start_size (layout old)) trace.now)) gains.new }
+pub(crate) fn count_steps(layout: Layout, trace: &[u8], steps: u32, gains: &mut [u8])
+    requires { (steps ≤ most_steps) × (place_of (its layout) steps ≤ length trace.now) × Tally 0 gains.old }
+    ensures { Gains (shown_steps (its layout) steps (drop (start_size (its layout)) trace.now)) gains.new }
 {
-    let size = step_size(old) as usize;
-    let mut at = start_size(old) as usize;
-    let mut k: u32 = 0;
-    while k < steps {
-        count_step(&trace[at..], gains);
-        k += 1;
-        at += size;
+    for k in 0..steps {
+        count_step(&trace[layout.place_of(k) as usize..], gains);
     }
 }

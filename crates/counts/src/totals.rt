@@ -1,42 +1,31 @@
 // The counts of all traces so far, and what one more adds to them.
-ghost use Rattle.std.specs.Prelude.{◌≡◌, true, ◌↔◌, ◌+◌, length};
+ghost use Rattle.std.specs.Prelude.{◌≡◌, true, ◌↔◌, ◌+◌};
 ghost use Rattle.words.specs.Word.{word};
-ghost use Rattle.counts.specs.Counts.{WORDS as all_words, COUNTS_SIZE, spell_words};
+ghost use Rattle.counts.specs.Counts.{WORDS as all_words, spell_words};
 ghost use Rattle.counts.specs.Parts.{Fits};
 
-use crate::places::WORDS;
+use crate::places::{COUNTS_SIZE, WORDS};
 use words::{get_word, put_word};
 
-// The largest word.
-const MOST: u32 = 4294967295;
-
 // Whether every sum is a word. The loop has no early exit, so that the compiler takes several words at a time.
-pub(crate) fn fits(counts: &[u8], gains: &[u8]) -> bool
-    requires { (length counts.now ≡ COUNTS_SIZE) × (length gains.now ≡ COUNTS_SIZE) }
+#[tactic(auto, using(crate::proofs::Adding::below_none, crate::proofs::Adding::below_next))]
+pub(crate) fn fits(counts: &[u8; COUNTS_SIZE], gains: &[u8; COUNTS_SIZE]) -> bool
     ensures { (result ≡ true) ↔ Fits counts.now gains.now }
 {
     let mut fits = true;
-    let mut w = 0;
-    while w < WORDS {
-        fits = fits & (get_word(gains, w) <= MOST - get_word(counts, w));
-        w += 1;
+    for w in 0..WORDS {
+        fits &= get_word(gains, w) <= u32::MAX - get_word(counts, w);
     }
     fits
 }
 
-pub(crate) fn add(counts: &mut [u8], gains: &[u8])
-    requires { (length counts.old ≡ COUNTS_SIZE) × (length gains.now ≡ COUNTS_SIZE)
-        × Fits counts.old gains.now }
+pub(crate) fn add(counts: &mut [u8; COUNTS_SIZE], gains: &[u8; COUNTS_SIZE])
+    requires { Fits counts.old gains.now }
     ensures { counts.new
         ≡ spell_words all_words 0 (λ w. word counts.old w + word gains.now w) }
 {
-    let mut place = 0;
-    while place < WORDS {
-        put_word(
-            counts,
-            place,
-            get_word(counts, place) + get_word(gains, place),
-        );
-        place += 1;
+    for p in 0..WORDS {
+        let sum = get_word(counts, p) + get_word(gains, p);
+        put_word(counts, p, sum);
     }
 }

@@ -6,19 +6,15 @@
 use interrupts::decision::{INDEXES, decision};
 use std::io;
 
-// The digit of an entry.
-fn digit(index: u32) -> u8 {
-    (48 + decision(index) % 10) as u8
-}
+// How many entries a line has.
+const LINE: u32 = 16;
 
 fn main(rt: HostRuntime) -> io::Result<()> {
-    let mut index = 0;
-    while index < INDEXES {
-        let text = [digit(index)];
-        rt.write_all(&text)?;
-        index += 1;
-        if index % 16 == 0 {
-            rt.write_all(b"\n")?;
+    for index in 0..INDEXES {
+        let entry = decision(index);
+        print!(rt; "{entry}")?;
+        if index % LINE == LINE - 1 {
+            println!(rt;)?;
         }
     }
     Ok(())

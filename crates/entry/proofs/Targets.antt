@@ -1,8 +1,13 @@
--- An entry goes to a mode with a saved state of its own, at an offset of the vector table.
-use Rattle.std.proofs.Common.{◌≡◌, ℕ, ◌<◌, Bool, true, false, not, ◌&&◌, [], ◌∷◌, refl, lit<, if◌then◌else◌}
+-- An entry goes to a mode with a saved state of its own, so with a place for it, at an offset of the vector table.
+use Rattle.std.proofs.Common.{◌≡◌, ℕ, ◌<◌, Bool, true, false, not, ◌&&◌, [], ◌∷◌, refl, arith, lit<, if◌then◌else◌}
+use Rattle.std.proofs.Common.{Option, None, Some}
+use Rattle.std.specs.Option.{IsSome}
 use Rattle.state.specs.Choice.{◌is◌, ◌among◌}
 use Rattle.state.specs.Field.{mode_field}
-use Rattle.state.specs.Mode.{MONITOR, HYP, targets, is_target}
+use Rattle.state.specs.Mode.{MONITOR, HYP, targets, is_target, spsr_place, lr_place}
+use Rattle.state.specs.Parts.{place_or_none}
+use Rattle.state.specs.Place.{PLACES}
+use Rattle.state.proofs.Laws.{spsr_inside, lr_inside}
 use Rattle.entry.specs.Code.{UNDEFINED_INSTRUCTION, SVC, SMC, HVC, PREFETCH_ABORT, DATA_ABORT, MONITOR_TRAP}
 use Rattle.entry.specs.Route.{to_monitor, to_hyp, own_mode, target, own_offset, offset_to, offset}
 
@@ -18,6 +23,17 @@ IsTarget m = is_target m ≡ true
 pub listed : (m : ℕ) → (m among targets) ≡ true → IsTarget m
 unfolding is_target
 listed m h = h
+
+-- a place in the block is no mark for none, so a target has both of its places
+in_block : (o : Option ℕ) {p : ℕ} → place_or_none o ≡ p → p < PLACES → IsSome o
+in_block None e h = absurd (omega arith)
+in_block (Some x) e h = refl
+
+pub has_spsr : (o : Option ℕ) (m : ℕ) → place_or_none o ≡ spsr_place m → (m among targets) ≡ true → IsSome o
+has_spsr o m e h = in_block o e (spsr_inside m (listed m h))
+
+pub has_lr : (o : Option ℕ) (m : ℕ) → place_or_none o ≡ lr_place m → (m among targets) ≡ true → IsSome o
+has_lr o m e h = in_block o e (lr_inside m (listed m h))
 
 own_target : (code : ℕ) → IsTarget (own_mode code)
 unfolding is_target

@@ -1,6 +1,6 @@
 -- What the code's own parts answer. Nobody has to believe these: they stand between the code and the rules, and the laws
 -- of proofs/ join them to `way` and `entered`.
-use Rattle.std.specs.Prelude.{ℕ, ◌+◌, Bool, ◌&&◌, ◌||◌, if◌then◌else◌}
+use Rattle.std.specs.Prelude.{◌≡◌, ℕ, ◌+◌, Bool, ◌&&◌, ◌||◌, if◌then◌else◌}
 use Rattle.state.specs.Choice.{◌is◌}
 use Rattle.state.specs.Field.{flag, mode_field, CPSR_T, SCR_NS, SCR_EA, HCR_TGE}
 use Rattle.state.specs.Mode.{HYP, MONITOR, ABORT}
@@ -9,6 +9,7 @@ use Rattle.state.specs.State.{secure, ns_user}
 use Rattle.entry.specs.Code.{external, stage2}
 use Rattle.entry.specs.Enter.{sets_a, sets_i, sets_f}
 use Rattle.entry.specs.Route.{wrap, offset_to}
+use Rattle.entry.specs.declared.entry.Entry.{Entry}
 use Rattle.entry.specs.Way.{Way, Barred, Enter}
 
 -- 2 with T 1, else 4: the length of an SVC, and what the link of Undefined and Monitor Trap has added
@@ -34,3 +35,7 @@ sets_number to scr = flag 2 (sets_a to scr) + flag 1 (sets_i to scr) + flag 0 (s
 -- of a word that is banked by Security state, the place of the one in use; the Non-secure one's comes next
 abbrev pub own_place : ℕ → ℕ → ℕ
 own_place secure scr = if SCR_NS scr then secure + 1 else secure
+
+-- an entry of the code that goes this way
+abbrev pub Enters : Way → Entry → Type 0
+Enters x entry = x ≡ Enter entry.to.number entry.offset entry.link

@@ -4,5 +4,6 @@
 
 pub mod code;
 pub mod enter;
+pub mod entry;
 pub mod offset;
 pub mod route;

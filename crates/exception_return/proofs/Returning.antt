@@ -1,32 +1,35 @@
 -- A return, on each way through its tests, comes to what the rows of refusals and the rules say.
+use Rattle.std.specs.Prelude.{Option, None, Some, Result, Err}
+use Rattle.std.specs.Option.{IsSome}
 use mathlib.Core.Path.{◌≡◌, refl, sym, ap, ◌∙◌}
 use mathlib.Core.Bool.{Bool, true, false, not, ◌&&◌, ◌||◌}
 use mathlib.Core.List.{List}
-use Prim.Native.Nat.{ℕ, ◌+◌, ◌*◌, ◌<◌, ◌≤◌}
+use Prim.Native.Nat.{ℕ, ◌<◌}
 use native.Mathlib.Omega.{arith}
 use borrow.Author.Tests.{eq-eqb, ne_eqb, not-true, not-false}
 use lib.ListN.{length}
-use Rattle.words.specs.Word.{word, put}
+use Rattle.words.specs.Word.{word}
 use Rattle.state.specs.Choice.{◌is◌}
 use Rattle.state.specs.Field.{mode_field, SCR_NS}
 use Rattle.state.specs.Mode.{HYP, is_target, spsr_place, lr_place}
-use Rattle.state.specs.Number.{DONE, BAD_STATE, BAD_EVENT, NOT_HERE}
-use Rattle.state.specs.Place.{BLOCK_SIZE, PLACES, NO_PLACE, CPSR, PC, SCR, HCR}
+use Rattle.state.specs.Number.{DONE}
+use Rattle.state.specs.Parts.{place_or_none}
+use Rattle.state.specs.Place.{BLOCK_SIZE, PLACES, NO_PLACE, CPSR, SCR, HCR}
 use Rattle.state.specs.State.{fault}
+use Rattle.state.specs.declared.mode.Mode.{Mode}
+use Rattle.state.specs.declared.refusal.Refusal.{Refusal}
+use Rattle.state.specs.declared.refusal.Refusal.TheVariants.{BadState, BadEvent, NotHere}
 use Rattle.state.proofs.Good.{parts_of_good}
+use Rattle.state.proofs.Laws.{lr_inside}
 use Rattle.state.proofs.Test.{and_left, same, same_eq, at_below}
 use Rattle.returns.specs.Parts.{Leaves}
 use Rattle.returns.specs.Return.{wrong_a, bad_saved, word_after, address_after}
 use Rattle.rules.specs.Event.{RETURN}
-use Rattle.rules.specs.Parts.{Told, Carried}
-use Rattle.rules.specs.Step.{Action, Refuse, Return, action}
-use Rattle.rules.specs.Verdict.{answer_for}
-use Rattle.rules.specs.declared.verdict.Verdict.TheVariants.{Returned}
+use Rattle.rules.specs.Parts.{CameTo}
+use Rattle.rules.specs.Step.{Action, Return, action}
+use Rattle.rules.specs.declared.verdict.Verdict.{Verdict}
+use Rattle.rules.proofs.Carrying.{refused, same_action}
 use Rattle.rules.proofs.Deciding.{event, returned_by, at_return}
-
--- a word lies within the n bytes of a block
-pub word_inside : (p : ℕ) {n : ℕ} → p < PLACES → n ≡ BLOCK_SIZE → 4 * p + 4 ≤ n
-word_inside p l size = omega arith
 
 -- the mark for no place tells who has no saved state
 abbrev marked : ℕ → Bool
@@ -37,66 +40,86 @@ unfolding spsr_place is_target
 place_tells m l = same_eq (spsr_place m is NO_PLACE) (not (is_target m)) (at_below 32 marked refl m l)
 
 -- the place of the saved word, as it was found for the mode of CPSR
-module _ (cpsr : ℕ) {p : ℕ} (at : p ≡ spsr_place (mode_field cpsr)) where
-  pub none_saved : p ≡ NO_PLACE → is_target (mode_field cpsr) ≡ false
-  none_saved e =
-      not-true (is_target (mode_field cpsr))
-      (sym (place_tells (mode_field cpsr) (omega arith)) ∙ eq-eqb (spsr_place (mode_field cpsr)) NO_PLACE (sym at ∙ e))
+none_saved : (cpsr : ℕ) → NO_PLACE ≡ spsr_place (mode_field cpsr) → is_target (mode_field cpsr) ≡ false
+none_saved cpsr e =
+    not-true (is_target (mode_field cpsr))
+    (sym (place_tells (mode_field cpsr) (omega arith)) ∙ eq-eqb (spsr_place (mode_field cpsr)) NO_PLACE (sym e))
 
-  pub has_saved_lem : (p ≡ NO_PLACE → ⊥) → is_target (mode_field cpsr) ≡ true
-  has_saved_lem n =
-      not-false (is_target (mode_field cpsr))
-      (sym (place_tells (mode_field cpsr) (omega arith)) ∙ ne_eqb (spsr_place (mode_field cpsr)) NO_PLACE (λ e. n (at ∙ e)))
+some_saved : (cpsr : ℕ) → (spsr_place (mode_field cpsr) ≡ NO_PLACE → ⊥) → is_target (mode_field cpsr) ≡ true
+some_saved cpsr n =
+    not-false (is_target (mode_field cpsr))
+    (sym (place_tells (mode_field cpsr) (omega arith)) ∙ ne_eqb (spsr_place (mode_field cpsr)) NO_PLACE n)
 
 -- a good block with a saved state may return
-pub leaves : (b : List ℕ) {cpsr scr : ℕ} → cpsr ≡ word b CPSR → scr ≡ word b SCR → fault b ≡ DONE
+leaves : (b : List ℕ) {cpsr scr : ℕ} → cpsr ≡ word b CPSR → scr ≡ word b SCR → fault b ≡ DONE
     → is_target (mode_field cpsr) ≡ true → Leaves cpsr scr
 unfolding fault
 leaves b {cpsr} {scr} ec es good t =
     let stands = (parts_of_good (word b CPSR) (word b SCR) (word b HCR) good).standing in
     (t, rw (ec, es) (not-true (mode_field (word b CPSR) is HYP && not (SCR_NS (word b SCR))) (and_left _ _ stands)))
 
--- what a return comes to, by what was found of the saved word and of the operands
+-- and has a place for its return address
+linked : (m : ℕ) (o : Option ℕ) → is_target m ≡ true → place_or_none o ≡ lr_place m → IsSome o
+linked m None t e = let i = lr_inside m t in absurd (omega arith)
+linked m (Some p) t e = refl
+
+-- the mode that was found, and a place of its saved word
+module _ (cpsr : ℕ) {mode : Mode} (em : mode ≡ record { number = mode_field cpsr }) where
+  its_spsr : {p : ℕ} → p ≡ spsr_place mode.number → p ≡ spsr_place (mode_field cpsr)
+  its_spsr e = e ∙ ap (λ (m : Mode). spsr_place m.number) em
+
+  its_lr : {p : ℕ} → p ≡ lr_place mode.number → p ≡ lr_place (mode_field cpsr)
+  its_lr e = e ∙ ap (λ (m : Mode). lr_place m.number) em
+
+  module _ {p : ℕ} (place : p ≡ spsr_place mode.number) (inside : p < PLACES) where
+    some : is_target (mode_field cpsr) ≡ true
+    some = let e = its_spsr place in some_saved cpsr (λ n. absurd (omega arith))
+
+    pub may_leave : (b : List ℕ) {scr : ℕ} → cpsr ≡ word b CPSR → scr ≡ word b SCR → fault b ≡ DONE → Leaves cpsr scr
+    may_leave b ec es good = leaves b ec es good some
+
+    pub has_link : (o : Option ℕ) → place_or_none o ≡ lr_place mode.number → IsSome o
+    has_link o e = linked (mode_field cpsr) o some (its_lr e)
+
+-- what a return comes to on a good block, by what was found of its mode and its A
 module _ (b : List ℕ) (a w : ℕ) {cpsr scr : ℕ} (ec : cpsr ≡ word b CPSR) (es : scr ≡ word b SCR) (size : length b ≡ BLOCK_SIZE)
-    (good : fault b ≡ DONE) where
-  abbrev target : Bool
-  target = is_target (mode_field cpsr)
+    (good : fault b ≡ DONE) {mode : Mode} (em : mode ≡ record { number = mode_field cpsr }) {off : Bool} (eo : off ≡ wrong_a cpsr a) where
+  -- the return itself, by the saved word and the link
+  abbrev back : ℕ → ℕ → Action
+  back saved link = Return (word_after cpsr scr (word b HCR) saved) (address_after saved link a)
 
-  abbrev saved : ℕ
-  saved = word b (spsr_place (mode_field cpsr))
+  so : {place wrong : Bool} {p q : ℕ} → is_target (mode_field cpsr) ≡ place → p ≡ spsr_place (mode_field cpsr)
+      → q ≡ lr_place (mode_field cpsr) → (off || not (w is 0)) ≡ wrong
+      → returned_by (place && bad_saved (word b p)) wrong (not place) (back (word b p) (word b q)) ≡ action b (event RETURN a w)
+  so t ep eq h = rw (← h, ← t, ep, eq, eo, ec, es) (at_return b a w size good)
 
-  abbrev wrong : Bool
-  wrong = wrong_a cpsr a || not (w is 0)
+  -- with no place of a saved word
+  module _ (none : NO_PLACE ≡ spsr_place mode.number) where
+    pub none_wrong : (off || not (w is 0)) ≡ true → CameTo b (action b (event RETURN a w)) (Err BadEvent) b
+    none_wrong h = refused b BadEvent (so (none_saved cpsr (its_spsr cpsr em none)) refl refl h)
 
-  abbrev back : Action
-  back = Return (word_after cpsr scr (word b HCR) saved) (address_after saved (word b (lr_place (mode_field cpsr))) a)
+    pub none_right : (off || not (w is 0)) ≡ false → CameTo b (action b (event RETURN a w)) (Err NotHere) b
+    none_right h = refused b NotHere (so (none_saved cpsr (its_spsr cpsr em none)) refl refl h)
 
-  so : returned_by (target && bad_saved saved) wrong (not target) back ≡ action b (event RETURN a w)
-  so = rw (ec, es) (at_return b a w size good)
+  -- with one, and what was found of the word there
+  module _ {p saved : ℕ} (place : p ≡ spsr_place mode.number) (inside : p < PLACES) (read : saved ≡ word b p) {bad : Bool}
+      (e : bad ≡ bad_saved saved) where
+    there : is_target (mode_field cpsr) ≡ true
+    there = some cpsr em place inside
 
-  pub none_wrong : target ≡ false → wrong ≡ true → Refuse BAD_EVENT ≡ action b (event RETURN a w)
-  none_wrong t e = rw (t, e) at so
+    spsr : p ≡ spsr_place (mode_field cpsr)
+    spsr = its_spsr cpsr em place
 
-  pub none_right : target ≡ false → wrong ≡ false → Refuse NOT_HERE ≡ action b (event RETURN a w)
-  none_right t e = rw (t, e) at so
+    pub unfit : bad ≡ true → CameTo b (action b (event RETURN a w)) (Err BadState) b
+    unfit h = refused b BadState (rw (← read, ← e, h) at (so there spsr refl refl))
 
-  pub bad_saved_lem : target ≡ true → bad_saved saved ≡ true → Refuse BAD_STATE ≡ action b (event RETURN a w)
-  bad_saved_lem t s = rw (t, s) at so
+    pub some_wrong : bad ≡ false → (off || not (w is 0)) ≡ true → CameTo b (action b (event RETURN a w)) (Err BadEvent) b
+    some_wrong fit h = refused b BadEvent (rw (← read, ← e, fit) at (so there spsr refl h))
 
-  pub some_wrong : target ≡ true → bad_saved saved ≡ false → wrong ≡ true → Refuse BAD_EVENT ≡ action b (event RETURN a w)
-  some_wrong t s e = rw (t, s, e) at so
-
-  -- done, with the two words that were read
-  pub done_return : {x y : ℕ} → x ≡ saved → y ≡ word b (lr_place (mode_field cpsr)) → target ≡ true → bad_saved saved ≡ false
-      → wrong ≡ false
-      → Return (word_after cpsr scr (word b HCR) x) (address_after x y a) ≡ action b (event RETURN a w)
-  done_return p q t s e = rw (p, q) (rw (t, s, e) at so)
-
--- the same two words
-pub same_return : {c d p q : ℕ} → c ≡ d → p ≡ q → Return c p ≡ Return d q
-same_return e f = λ i. Return (e i) (f i)
-
--- both written
-pub written : (b : List ℕ) (cpsr pc : ℕ) {n : ℕ} {k l m : List ℕ} → k ≡ put b CPSR cpsr → l ≡ put k PC pc
-    → Told (answer_for (Returned pc)) n m → Carried b (Return cpsr pc) n l m
-written b cpsr pc e f t = (f ∙ ap (λ (c : List ℕ). put c PC pc) e, t)
+    pub done : {o : Option ℕ} {q link : ℕ} {v : Result Verdict Refusal} {l : List ℕ} → bad ≡ false → (off || not (w is 0)) ≡ false
+        → place_or_none o ≡ lr_place mode.number → o ≡ Some q → link ≡ word b q
+        → CameTo b (Return (word_after cpsr scr (word b HCR) saved) (address_after saved link a)) v l
+        → CameTo b (action b (event RETURN a w)) v l
+    done fit h ep found el =
+        let q = its_lr cpsr em (sym (ap place_or_none found) ∙ ep) in
+        same_action b (rw (← read, ← el, ← e, fit) at (so there spsr q h))

@@ -1,17 +1,17 @@
--- The code's steps in the terms of the definition: a report that is not of a wrong Step has nothing to explain, and one
--- that is has the difference of the Step at its place from what the rules give on the bytes right before it.
+-- The code's steps in the terms of the definition: what there is to explain of a wrong Step is the difference of the Step at its
+-- place from what the rules give on the bytes right before it.
 use mathlib.Core.Path.{◌≡◌, sym, ap, ◌∙◌}
 use mathlib.Core.List.{List}
 use Prim.Native.Nat.{ℕ, ◌+◌, ◌-◌, ◌≤◌}
 use lib.ListN.{length, take, drop}
-use borrow.Author.Tests.{eq-eqb, ne_eqb}
+use borrow.Author.Tests.{eq-eqb}
 use Rattle.words.specs.Word.{spelt, Bytes}
 use Rattle.rules.specs.declared.verdict.Answer.{Answer}
 use Rattle.records.specs.declared.report.Report.{Report}
 use Rattle.records.specs.Layout.{Layout, Lawful, start_size, step_size, number_at, value_at, block_after_at}
 use Rattle.records.specs.Report.{event_of, report, WRONG_STEP}
 use Rattle.explain.specs.declared.Difference.{Difference}
-use Rattle.explain.specs.Explain.{NUMBER_PART, parts, part_word, none, differing, step_difference, wrong_part, explained, explanation}
+use Rattle.explain.specs.Explain.{NUMBER_PART, parts, part_word, differing, step_difference, wrong_part, explained, explanation}
 use Rattle.explain.proofs.Before.{WrongAt, wrong_at, before_last, wrong_within}
 
 -- the words read off a Step and those of the step that was taken, under the definition's names
@@ -30,14 +30,9 @@ compared L b r d number value shown x c is n v w p q =
 
 module _ (L : Layout) (s : List ℕ) (v : Report) (is : v ≡ report L s) where
   -- an explanation, by any report that is the checker's
-  by_report : explained L v (wrong_part L s v) ≡ explanation L s
+  pub by_report : (d : Difference) → d ≡ wrong_part L s v → explained L v d ≡ explanation L s
   unfolding explanation
-  by_report = ap (λ (w : Report). explained L w (wrong_part L s w)) is
-
-  pub none-explained : (v.number ≡ WRONG_STEP → ⊥) → explained L v none ≡ explanation L s
-  none-explained n =
-      let d : none ≡ wrong_part L s v = simp (ne_eqb v.number WRONG_STEP n) in
-      ap (explained L v) d ∙ by_report
+  by_report d e = ap (explained L v) e ∙ ap (λ (w : Report). explained L w (wrong_part L s w)) is
 
   module _ (LL : Lawful L) (by : Bytes s) (wrong : v.number ≡ WRONG_STEP) where
     at : WrongAt L LL s v
@@ -49,9 +44,8 @@ module _ (L : Layout) (s : List ℕ) (v : Report) (is : v ≡ report L s) where
 
     pub wrong_explained : (d : Difference)
         → d ≡ step_difference L (take L.size (drop (v.place - L.size) s)) (drop v.place s)
-        → explained L v d ≡ explanation L s
+        → d ≡ wrong_part L s v
     wrong_explained d e =
-        let q : d ≡ wrong_part L s v = e
+        e
         ∙ ap (λ (b : List ℕ). step_difference L b (drop v.place s)) (before_last L LL s v at)
-        ∙ (simp (eq-eqb v.number WRONG_STEP wrong)) in
-        ap (explained L v) q ∙ by_report
+        ∙ simp (eq-eqb v.number WRONG_STEP wrong)

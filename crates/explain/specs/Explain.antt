@@ -5,7 +5,7 @@
 -- answer number, 2 the value, 3 + p the word at the place p of the block after. The block before is the one that the
 -- events of the right Steps lead to from the start block. For any other report there is nothing to explain, and part,
 -- found and due are 0.
-use Rattle.std.specs.Prelude.{List, ℕ, zero, suc, ◌+◌, ◌-◌, ◌/◌, take, drop, if◌then◌else◌}
+use Rattle.std.specs.Prelude.{Option, None, Some, List, ℕ, zero, suc, ◌+◌, ◌-◌, ◌/◌, take, drop, if◌then◌else◌}
 use Rattle.words.specs.Word.{spelt, word}
 use Rattle.state.specs.Choice.{◌is◌}
 use Rattle.rules.specs.declared.verdict.Answer.{Answer}
@@ -44,6 +44,11 @@ part_word x c part =
 -- no part differs
 abbrev pub none : Difference
 none = record { part = 0; found = 0; due = 0 }
+
+-- one that there may be
+abbrev pub told : Option Difference → Difference
+told None = none
+told (Some d) = d
 
 -- of m parts from this one on, the first at which the word found is not the word due
 unfoldable pub differing : (m part : ℕ) → (ℕ → ℕ) → (ℕ → ℕ) → Difference

@@ -1,12 +1,12 @@
 -- The parts of a word, by the places that the two tables give its fields.
-use Rattle.std.specs.Prelude.{if◌then◌else◌}
+use Rattle.std.specs.Prelude.{Option, None, Some, if◌then◌else◌}
 use mathlib.Core.Path.{◌≡◌, refl, sym, ap, ◌∙◌}
-use mathlib.Core.Bool.{true, false}
+use mathlib.Core.Bool.{Bool, true, false, ◌||◌}
 use Prim.Native.Nat.{ℕ, ◌/◌, ◌%◌, ◌^◌, ◌<◌}
 use native.Mathlib.Omega.{arith}
 use Rattle.entry.specs.Code.{BANKED_READ, BANKED_WRITE}
 use Rattle.instruction.specs.Encoding.{MRS, MSR}
-use Rattle.instruction.specs.Instruction.{Parts, laid_out, in_range, parts_in, no_parts, reading}
+use Rattle.instruction.specs.Instruction.{Parts, laid_out, in_range, parts_in, no_parts, reading, read_if}
 use Rattle.instruction.specs.Places.{a_in}
 use Rattle.instruction.proofs.Tests.{not_both}
 
@@ -16,8 +16,8 @@ mrs_parts w = record { code = BANKED_READ; a = a_in w; condition = w / 0x1000000
 abbrev pub msr_parts : ℕ → Parts
 msr_parts w = record { code = BANKED_WRITE; a = a_in w; condition = w / 0x10000000; register = w % 16 }
 
-abbrev pub if_in_range : Parts → Parts
-if_in_range p = if in_range p then p else no_parts
+abbrev pub if_in_range : Parts → Option Parts
+if_in_range p = if in_range p then Some p else None
 
 module _ (w : ℕ) (small : w < 2 ^ 32) where
   pub mrs_parts_lem : parts_in BANKED_READ w ≡ mrs_parts w
@@ -38,14 +38,22 @@ module _ (w : ℕ) (small : w < 2 ^ 32) where
 
   -- ---- what is read
 
-  pub read_mrs : laid_out MRS w ≡ true → if_in_range (mrs_parts w) ≡ reading w
-  unfolding reading
-  read_mrs h = ap if_in_range (sym mrs_parts_lem) ∙ rw (h, not_both w h) refl
+  pub read_mrs : laid_out MRS w ≡ true → if_in_range (mrs_parts w) ≡ read_if w
+  unfolding read_if reading
+  read_mrs h = ap if_in_range (sym mrs_parts_lem) ∙ rw (h, not_both w h) (chosen _ (in_range (parts_in BANKED_READ w)))
+    where
+      chosen : (p : Parts) (t : Bool) → (if t then Some p else None) ≡ (if t || false then Some (if t then p else no_parts) else None)
+      chosen p true = refl
+      chosen p false = refl
 
-  pub read_msr : laid_out MRS w ≡ false → laid_out MSR w ≡ true → if_in_range (msr_parts w) ≡ reading w
-  unfolding reading
-  read_msr n h = ap if_in_range (sym msr_parts_lem) ∙ rw (n, h) refl
+  pub read_msr : laid_out MRS w ≡ false → laid_out MSR w ≡ true → if_in_range (msr_parts w) ≡ read_if w
+  unfolding read_if reading
+  read_msr n h = ap if_in_range (sym msr_parts_lem) ∙ rw (n, h) (chosen _ (in_range (parts_in BANKED_WRITE w)))
+    where
+      chosen : (p : Parts) (t : Bool) → (if t then Some p else None) ≡ (if t then Some (if t then p else no_parts) else None)
+      chosen p true = refl
+      chosen p false = refl
 
-pub read_none : (w : ℕ) → laid_out MRS w ≡ false → laid_out MSR w ≡ false → no_parts ≡ reading w
-unfolding reading
+pub read_none : (w : ℕ) → laid_out MRS w ≡ false → laid_out MSR w ≡ false → None ≡ read_if w
+unfolding read_if
 read_none w n m = rw (n, m) refl

@@ -1,6 +1,6 @@
 -- Reading and writing undo each other. What is true of both tables is proved over any that tiles a word (Tables.antt), and what is done
 -- by either over any that has what each of the two has (Kept).
-use Rattle.std.specs.Prelude.{if◌then◌else◌}
+use Rattle.std.specs.Prelude.{None, Some, is_some, unwrap_or, if◌then◌else◌}
 use mathlib.Core.Path.{◌≡◌, refl, sym, ap, subst, ◌∙◌}
 use mathlib.Core.Bool.{Bool, true, false, ◌&&◌, ◌||◌}
 use mathlib.Core.List.{List, [], ◌∷◌}
@@ -8,7 +8,7 @@ use Prim.Native.Nat.{ℕ, ◌+◌, ◌*◌, ◌/◌, ◌%◌, ◌^◌, ◌<◌}
 use native.Mathlib.Omega.{arith}
 use native.Mathlib.Nat.{mod-eq_of_lt}
 use lib.Dec.{ltb, lit<}
-use borrow.Author.Tests.{eq-eqb, ne_eqb, eqb-true, eqb-false, lt-ltb}
+use borrow.Author.Tests.{eq-eqb, eqb-true, eqb-false, lt-ltb}
 use Rattle.state.specs.Choice.{◌is◌}
 use Rattle.state.specs.Number.{DONE, NOT_BANKED}
 use Rattle.state.proofs.Test.{and_left, and_right, both, refuted, true_is_not_false}
@@ -16,12 +16,13 @@ use Rattle.entry.specs.Code.{BANKED_READ, BANKED_WRITE}
 use Rattle.instruction.specs.Encoding.{Name, Value, must_be, should_be, any, Field, MRS, MSR, values, in_word}
 use Rattle.instruction.specs.Instruction.{Parts, encoding, in_a, in_condition, in_register, total, agrees, laid_out, parts_in}
 use Rattle.instruction.specs.Instruction.{in_range, is_of, no_parts, is_read, reading, read_number, are_parts, given, holds, field_of}
+use Rattle.instruction.specs.Instruction.{read_if, write_if}
 use Rattle.instruction.specs.Instruction.{writing, write_number}
 use Rattle.instruction.specs.Places.{a_in}
 use Rattle.instruction.specs.Theorems.{InstructionTheorems}
 use Rattle.instruction.proofs.Tables.{Tiles, tiled, Each, unit, whole, below, put_is_in, same_total}
 use Rattle.instruction.proofs.Tests.{not_both}
-use Rattle.instruction.proofs.Writing.{in_ranges, ranges, mrs_word, msr_word}
+use Rattle.instruction.proofs.Writing.{in_ranges, ranges}
 
 -- ---- a field by its value
 
@@ -312,33 +313,40 @@ is_word p = by (are_parts p) refl
     by true h = by_code p h (writing p < 2 ^ 32) (word_below p h mrs) (word_below p h msr)
     by false h = subst (λ v. v < 2 ^ 32) (sym (not_written p (λ z. true_is_not_false (are_parts_lem p z) h)).1) (lit< tt)
 
--- ---- the numbers by what was read and written: the parts of no instruction have no code, and no instruction is the word 0
+-- ---- by what there is to tell: the number, and the parts and the word, which are 0 where there is none
 
-pub number_by_code : (w : ℕ) → read_number w ≡ (if (reading w).code is 0 then NOT_BANKED else DONE)
-unfolding read_number reading
-number_by_code w = by (is_of BANKED_READ w) (is_of BANKED_WRITE w)
+pub read_number_is : (w : ℕ) → read_number w ≡ (if is_some (read_if w) then DONE else NOT_BANKED)
+unfolding read_number read_if
+read_number_is w = by (is_read w)
   where
-    by : (t u : Bool)
-        → (if t || u then DONE else NOT_BANKED)
-        ≡ (if (if t then parts_in BANKED_READ w else if u then parts_in BANKED_WRITE w else no_parts).code is 0 then NOT_BANKED else DONE)
-    by true u = refl
-    by false true = refl
-    by false false = refl
+    by : (t : Bool) → (if t then DONE else NOT_BANKED) ≡ (if is_some (if t then Some (reading w) else None) then DONE else NOT_BANKED)
+    by true = refl
+    by false = refl
 
-not_zero : (p : Parts) → are_parts p ≡ true → writing p ≡ 0 → ⊥
-not_zero p are z =
-    let r = ranges p (in_ranges_lem p are) in
-    by_code p are ⊥ (λ e. omega (arith, mrs_word p r.0 r.1 r.2 e, z))
-    (λ e. omega (arith, msr_word p r.0 r.1 r.2 e, z))
-
-pub number_by_word : (p : Parts) → write_number p ≡ (if writing p is 0 then NOT_BANKED else DONE)
-number_by_word p = by (are_parts p) refl
+pub reading_is : (w : ℕ) → reading w ≡ unwrap_or (read_if w) no_parts
+unfolding read_if
+reading_is w = by (is_read w) refl
   where
-    by : (t : Bool) → are_parts p ≡ t → write_number p ≡ (if writing p is 0 then NOT_BANKED else DONE)
-    by true h = number_written p h ∙ sym (ap (λ t. if t then NOT_BANKED else DONE) (ne_eqb (writing p) 0 (not_zero p h)))
-    by false h =
-        let none = not_written p (λ z. true_is_not_false (are_parts_lem p z) h) in
-        none.0 ∙ sym (ap (λ t. if t then NOT_BANKED else DONE) (eq-eqb (writing p) 0 none.1))
+    by : (t : Bool) → is_read w ≡ t → reading w ≡ unwrap_or (if t then Some (reading w) else None) no_parts
+    by true h = refl
+    by false h = (not_read w (λ z. true_is_not_false (is_read_lem w z) h)).1
+
+pub write_number_is : (p : Parts) → write_number p ≡ (if is_some (write_if p) then DONE else NOT_BANKED)
+unfolding write_number write_if
+write_number_is p = by (are_parts p)
+  where
+    by : (t : Bool) → (if t then DONE else NOT_BANKED) ≡ (if is_some (if t then Some (writing p) else None) then DONE else NOT_BANKED)
+    by true = refl
+    by false = refl
+
+pub writing_is : (p : Parts) → writing p ≡ unwrap_or (write_if p) 0
+unfolding write_if writing
+writing_is p = by (are_parts p)
+  where
+    by : (t : Bool) → let sum = total unit (field_of p) (encoding p.code) in
+        (if t then sum else 0) ≡ unwrap_or (if t then Some (if t then sum else 0) else None) 0
+    by true = refl
+    by false = refl
 
 pub theorems : InstructionTheorems
 unfolding reading

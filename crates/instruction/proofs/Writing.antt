@@ -1,37 +1,38 @@
 -- The word of some parts, by the places that the two tables give its fields.
-use Rattle.std.specs.Prelude.{if◌then◌else◌}
+use Rattle.std.specs.Prelude.{None, Some}
 use mathlib.Core.Path.{◌≡◌, refl, sym, ap, ◌∙◌}
 use mathlib.Core.Bool.{Bool, true, false, ◌&&◌, ◌||◌, and-false}
 use mathlib.Core.List.{List}
-use Prim.Native.Nat.{ℕ, ◌+◌, ◌*◌, ◌^◌, ◌<◌}
+use Prim.Native.Nat.{ℕ, ◌+◌, ◌*◌, ◌^◌, ◌<◌, ◌≤◌}
 use native.Mathlib.Omega.{arith}
 use lib.Dec.{ltb}
-use borrow.Author.Tests.{eq-eqb, ne_eqb, lt-ltb, ltb-true}
+use borrow.Author.Tests.{eq-eqb, ne_eqb, lt-ltb, le-ltb, ltb-true}
 use Rattle.state.specs.Choice.{◌is◌}
 use Rattle.state.proofs.Test.{and_left, and_right}
 use Rattle.entry.specs.Code.{BANKED_READ, BANKED_WRITE}
 use Rattle.instruction.specs.Encoding.{Field, MRS, MSR}
 use Rattle.instruction.specs.Places.{shared_of}
-use Rattle.instruction.specs.Instruction.{Parts, encoding, total, in_range, are_parts, field_of, writing}
+use Rattle.instruction.specs.Instruction.{Parts, encoding, total, in_range, are_parts, field_of, writing, write_if}
 
 -- where one of the tests fails, no word is written
-pub by_tests : (p : Parts) {r w a c g : Bool} → (p.code is BANKED_READ) ≡ r → (p.code is BANKED_WRITE) ≡ w → ltb p.a 64 ≡ a
-    → ltb p.condition 15 ≡ c → ltb p.register 15 ≡ g
-    → ((r || w) && (a && (c && g))) ≡ are_parts p
-by_tests p h k l m n = λ i. (sym h i || sym k i) && (sym l i && (sym m i && sym n i))
-
-no_word : (p : Parts) → are_parts p ≡ false → 0 ≡ writing p
-unfolding writing
+no_word : (p : Parts) → are_parts p ≡ false → None ≡ write_if p
+unfolding write_if
 no_word p h = rw h refl
 
 abbrev pub in_ranges : Parts → Bool
 in_ranges p = ltb p.a 64 && in_range p
 
-pub out_of_range : (p : Parts) → in_ranges p ≡ false → 0 ≡ writing p
-out_of_range p h =
+out_of_ranges : (p : Parts) → in_ranges p ≡ false → None ≡ write_if p
+out_of_ranges p h =
     let banked = p.code is BANKED_READ || p.code is BANKED_WRITE in no_word p (ap (λ t. banked && t) h ∙ and-false banked)
 
-pub no_such_code : (p : Parts) → (p.code ≡ BANKED_READ → ⊥) → (p.code ≡ BANKED_WRITE → ⊥) → 0 ≡ writing p
+pub no_such_cell : (p : Parts) → 64 ≤ p.a → None ≡ write_if p
+no_such_cell p h = out_of_ranges p (ap (λ t. t && in_range p) (le-ltb p.a 64 h))
+
+pub out_of_range : (p : Parts) → in_range p ≡ false → None ≡ write_if p
+out_of_range p h = out_of_ranges p (ap (λ t. ltb p.a 64 && t) h ∙ and-false (ltb p.a 64))
+
+pub no_such_code : (p : Parts) → (p.code ≡ BANKED_READ → ⊥) → (p.code ≡ BANKED_WRITE → ⊥) → None ≡ write_if p
 no_such_code p h k = no_word p (λ i. (ne_eqb _ _ h i || ne_eqb _ _ k i) && in_ranges p)
 
 -- what the tests of the ranges tell
@@ -47,21 +48,21 @@ ranges p h =
 abbrev laid : Parts → List Field → ℕ
 laid p = total (λ f. 2 ^ f.low) (field_of p)
 
-module _ (p : Parts) (a : p.a < 64) (c : p.condition < 15) (g : p.register < 15) where
-  written : {r w : Bool} → (p.code is BANKED_READ) ≡ r → (p.code is BANKED_WRITE) ≡ w → (r || w) ≡ true
-      → writing p ≡ laid p (encoding p.code)
-  unfolding writing
-  written h k t =
-      let are : are_parts p ≡ true = sym (by_tests p h k (lt-ltb _ _ a) (lt-ltb _ _ c) (lt-ltb _ _ g)) ∙ ap (λ x. x && true) t in
-      ap (λ x. if x then laid p (encoding p.code) else 0) are
+module _ (p : Parts) (a : p.a < 64) (in_them : in_range p ≡ true) where
+  of_code : {r w : Bool} → (p.code is BANKED_READ) ≡ r → (p.code is BANKED_WRITE) ≡ w → (r || w) ≡ true
+      → Some (laid p (encoding p.code)) ≡ write_if p
+  unfolding write_if writing
+  of_code h k t =
+      let are : are_parts p ≡ true = (λ i. (h i || k i) && (lt-ltb _ _ a i && in_them i)) ∙ ap (λ x. x && true) t in
+      rw are refl
 
-  pub mrs_word : p.code ≡ BANKED_READ → shared_of p.a p.condition + p.register * 0x1000 ≡ writing p
+  pub mrs_word : p.code ≡ BANKED_READ → Some (shared_of p.a p.condition + p.register * 0x1000) ≡ write_if p
   mrs_word h =
       let sum : shared_of p.a p.condition + p.register * 0x1000 ≡ laid p MRS = omega arith in
-      sum ∙ ap (λ k. laid p (encoding k)) (sym h) ∙ sym (written (eq-eqb _ _ h) refl refl)
+      ap Some sum ∙ ap (λ k. Some (laid p (encoding k))) (sym h) ∙ of_code (eq-eqb _ _ h) refl refl
 
-  pub msr_word : p.code ≡ BANKED_WRITE → shared_of p.a p.condition + 0x20F000 + p.register ≡ writing p
+  pub msr_word : p.code ≡ BANKED_WRITE → Some (shared_of p.a p.condition + 0x20F000 + p.register) ≡ write_if p
   msr_word h =
       let sum : shared_of p.a p.condition + 0x20F000 + p.register ≡ laid p MSR = omega arith in
       let no_read = ne_eqb p.code BANKED_READ (λ z. omega (arith, h, z)) in
-      sum ∙ ap (λ k. laid p (encoding k)) (sym h) ∙ sym (written no_read (eq-eqb _ _ h) refl)
+      ap Some sum ∙ ap (λ k. Some (laid p (encoding k))) (sym h) ∙ of_code no_read (eq-eqb _ _ h) refl

@@ -1,6 +1,6 @@
 -- The parts of an instruction word, "code 10 or 11, A 0-63, condition 0-14 and register 0-14", read off its fields, and the word put
 -- together of them (document 02, No. 14). "Anything else is 18 both ways, with the parts or the word 0."
-use Rattle.std.specs.Prelude.{Bool, true, ◌&&◌, ◌||◌, List, [], ◌∷◌, ℕ, ◌+◌, ◌*◌, ◌/◌, ◌%◌, ◌^◌, ltb, if◌then◌else◌}
+use Rattle.std.specs.Prelude.{Option, None, Some, Bool, true, ◌&&◌, ◌||◌, List, [], ◌∷◌, ℕ, ◌+◌, ◌*◌, ◌/◌, ◌%◌, ◌^◌, ltb, if◌then◌else◌}
 use Rattle.state.specs.Choice.{◌is◌}
 use Rattle.state.specs.Number.{DONE, NOT_BANKED}
 use Rattle.entry.specs.Code.{BANKED_READ, BANKED_WRITE}
@@ -113,3 +113,11 @@ writing p = if are_parts p then total (λ f. 2 ^ f.low) (field_of p) (encoding p
 
 unfoldable pub write_number : Parts → ℕ
 write_number p = if are_parts p then DONE else NOT_BANKED
+
+-- ---- the same, where there is something to tell
+
+unfoldable pub read_if : ℕ → Option Parts
+read_if w = if is_read w then Some (reading w) else None
+
+unfoldable pub write_if : Parts → Option ℕ
+write_if p = if are_parts p then Some (writing p) else None

@@ -1,9 +1,9 @@
 // Instruction words (document 02, No. 14): MRS and MSR of a banked register, read into the parts of an event, and written of them.
 #![tactic(auto)]
 
-ghost use Rattle.std.specs.Prelude.{◌≡◌, ◌+◌, ◌*◌, ◌/◌, ◌%◌, ◌<◌, ◌&&◌, ltb, if◌then◌else◌};
+ghost use Rattle.std.specs.Prelude.{◌≡◌, ◌<◌, Some, None, if◌then◌else◌};
 ghost use Rattle.instruction.specs.Places.{has_bits, a_in, shared_of};
-ghost use Rattle.instruction.specs.Instruction.{in_range, no_parts, reading, writing};
+ghost use Rattle.instruction.specs.Instruction.{in_range, read_if, write_if};
 
 use entry::code;
 
@@ -14,8 +14,7 @@ const RANGE: u32 = 15;
 const CELLS: u32 = 64;
 
 // What an instruction says: the event's code and A, and apart from them the condition and the general register.
-#[repr(C)]
-#[derive(Clone, Copy)]
+#[derive(Clone, Copy, Debug, PartialEq, Eq)]
 pub struct Parts {
     pub code: u32,
     pub a: u32,
@@ -48,28 +47,18 @@ fn has_bits(word: u32, op: u32, field: u32, due: u32) -> bool
     field == due
 }
 
-fn none() -> Parts
-    ensures { result ≡ no_parts }
+// Are condition and register in their range?
+fn are_in_range(p: Parts) -> bool
+    ensures { result ≡ in_range p }
 {
-    Parts {
-        code: 0,
-        a: 0,
-        condition: 0,
-        register: 0,
-    }
+    p.condition < RANGE && p.register < RANGE
 }
 
 // The parts, if condition and register are in their range.
-fn within(p: Parts) -> Parts
-    ensures { result ≡ (if in_range p then p else no_parts) }
+fn within(p: Parts) -> Option<Parts>
+    ensures { result ≡ (if in_range p then Some p else None) }
 {
-    if RANGE <= p.condition {
-        return none();
-    }
-    if RANGE <= p.register {
-        return none();
-    }
-    p
+    if are_in_range(p) { Some(p) } else { None }
 }
 
 // A: R, M and M1, in this order.
@@ -79,10 +68,9 @@ fn a_of(word: u32) -> u32
     word / 0x40_0000 % 2 * 32 + word / 0x100 % 2 * 16 + word / 0x1_0000 % 16
 }
 
-// The parts of a word that is MRS, with bits 3 to 0 that should be 0, or MSR, with bits 15 to 12 that should be 1; of any other they
-// are 0.
-pub fn read(word: u32) -> Parts
-    ensures { result ≡ reading word }
+// The parts of a word that is MRS, with bits 3 to 0 that should be 0, or MSR, with bits 15 to 12 that should be 1; any other has none.
+pub fn read(word: u32) -> Option<Parts>
+    ensures { result ≡ read_if word }
 {
     if has_bits(word, 0, word % 16, 0) {
         return within(Parts {
@@ -100,22 +88,10 @@ pub fn read(word: u32) -> Parts
             register: word % 16,
         });
     }
-    none()
+    None
 }
 
 // ---- writing
-
-fn is_in_range(a: u32, condition: u32, register: u32) -> bool
-    ensures { result ≡ (ltb a 64 && (ltb condition 15 && ltb register 15)) }
-{
-    if CELLS <= a {
-        return false;
-    }
-    if RANGE <= condition {
-        return false;
-    }
-    register < RANGE
-}
 
 // What the words of both have: the condition, R, M1, M, and the bits that are set in each.
 fn shared(a: u32, condition: u32) -> u32
@@ -129,19 +105,17 @@ fn shared(a: u32, condition: u32) -> u32
         + 0x100_0200
 }
 
-// The word of these parts; where they are none it is 0, which is no such word.
-pub fn write(p: Parts) -> u32
-    ensures { result ≡ writing p }
+// The word of these parts; there is none where a part is out of its range, or the code is of neither.
+pub fn write(p: Parts) -> Option<u32>
+    ensures { result ≡ write_if p }
 {
-    if !is_in_range(p.a, p.condition, p.register) {
-        return 0;
+    if CELLS <= p.a || !are_in_range(p) {
+        return None;
     }
     let both = shared(p.a, p.condition);
-    if p.code == code::BANKED_READ {
-        return both + p.register * 0x1000;
+    match p.code {
+        code::BANKED_READ => Some(both + p.register * 0x1000),
+        code::BANKED_WRITE => Some(both + 0x20_F000 + p.register),
+        _ => None,
     }
-    if p.code == code::BANKED_WRITE {
-        return both + 0x20_F000 + p.register;
-    }
-    0
 }

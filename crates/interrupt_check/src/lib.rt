@@ -1,231 +1,134 @@
 // The interrupt check (document 01, "The interrupt check"), on a good block: the first exception that can be taken is.
 #![tactic(auto)]
 
-ghost use Rattle.std.specs.Prelude.{◌≡◌};
-ghost use Rattle.interrupts.specs.Check.{physical_way, way};
-ghost use Rattle.interrupts.specs.declared.exception.Exception.TheVariants.{SError, Fiq, Irq};
-ghost use Rattle.interrupts.specs.Kind.{serror, fiq, irq};
+ghost use Rattle.std.specs.Prelude.{Ok};
+ghost use Rattle.entry.specs.Parts.{Enters};
+ghost use Rattle.interrupts.specs.Check.{physical_way, virtual_way, way};
+ghost use Rattle.interrupts.specs.Decision.{physical};
+ghost use Rattle.interrupts.specs.Parts.{virtual};
+ghost use Rattle.interrupts.specs.Kind.{the_kind};
 ghost use Rattle.rules.specs.Event.{INTERRUPT_CHECK};
-ghost use Rattle.rules.specs.Parts.{Lent, Ready, Carried};
-ghost use Rattle.rules.specs.Step.{taken_by, action};
-ghost use Rattle.state.specs.Place.{PC};
+ghost use Rattle.rules.specs.Parts.{CameTo};
+ghost use Rattle.rules.specs.Step.{taken_by};
+ghost use Rattle.state.specs.Parts.{ReadFrom};
+ghost use Rattle.state.specs.Place.{PC as pc_place};
 ghost use Rattle.words.specs.Word.{word};
 
-use entry::offset;
-use interrupts::check::{Found, first_takeable, goes_to_hyp};
+use entry::entry::Entry;
+use entry::route::hyp_entry;
+use interrupts::check::{first_takeable, goes_to_hyp};
 use interrupts::exception::Exception;
-use rules::answer::{done, refuse};
-use rules::event::{LINE_VALUES, beyond};
-use rules::taking::{take, take_to_hyp};
+use interrupts::kind::Kind;
+use rules::event::{LINE_VALUES, Operands};
+use rules::rule::Rule;
+use rules::taking::take;
 use rules::verdict::Verdict;
-use state::field::{hcr_amo, hcr_fmo, hcr_imo, scr_ea, scr_fiq, scr_irq};
 use state::mode::Mode;
-use state::{number, place};
-use std::num::wrapping_add_u32;
+use state::place;
+use state::place::BLOCK_SIZE;
+use state::refusal::Refusal;
+use state::state::Status;
 use words::get_word;
 
-// The physical exceptions: to Monitor by their bit of SCR, to Hyp, or to their own mode.
-fn serror(block: &mut [u8], cpsr: u32, scr: u32, hcr: u32, pc: u32, buffer: &mut [u8]) -> u32
-    requires { Lent block.old buffer.old cpsr scr }
-    ensures { Carried block.old (taken_by SError (physical_way serror cpsr scr hcr pc)) result
-        block.new buffer.new }
+// Where a physical exception goes: to Monitor by its bit of SCR, to Hyp, where anything but IRQ and FIQ has another offset, or to
+// the kind's own mode.
+#[tactic(auto, unfolding(state::specs::Mode::is_target))]
+fn physical_entry(kind: Kind, status: Status, hcr: u32, pc: u32) -> Entry
+    ensures { Enters (physical_way (the_kind kind) status.cpsr status.scr hcr pc) result }
 {
-    if scr_ea(scr) {
-        let link = wrapping_add_u32(pc, 8);
-        return take(
-            block,
-            cpsr,
-            scr,
-            Exception::SError,
-            Mode::MONITOR.number,
-            offset::SERROR,
-            link,
-            buffer,
-        );
+    let own = kind.own_offset();
+    if kind.r(status.scr) {
+        return Entry {
+            to: Mode::MONITOR,
+            offset: own,
+            link: pc.wrapping_add(kind.addend()),
+        };
     }
-    if goes_to_hyp(cpsr, scr, hcr, hcr_amo(hcr)) {
-        return take_to_hyp(
-            block,
-            cpsr,
-            scr,
-            Exception::SError,
-            offset::SERROR,
-            pc,
-            buffer,
-        );
+    if goes_to_hyp(status, hcr, kind.m(hcr)) {
+        if kind == Kind::SError {
+            return hyp_entry(status, own, pc);
+        }
+        return Entry {
+            to: Mode::HYP,
+            offset: own,
+            link: pc,
+        };
     }
-    let link = wrapping_add_u32(pc, 8);
-    take(
-        block,
-        cpsr,
-        scr,
-        Exception::SError,
-        Mode::ABORT.number,
-        offset::SERROR,
-        link,
-        buffer,
-    )
+    own_entry(kind, pc)
 }
 
-fn fiq(block: &mut [u8], cpsr: u32, scr: u32, hcr: u32, pc: u32, buffer: &mut [u8]) -> u32
-    requires { Lent block.old buffer.old cpsr scr }
-    ensures { Carried block.old (taken_by Fiq (physical_way fiq cpsr scr hcr pc)) result
-        block.new buffer.new }
+// Where a virtual one goes: to the kind's own mode.
+fn own_entry(kind: Kind, pc: u32) -> Entry
+    ensures { Enters (virtual_way (the_kind kind) pc) result }
 {
-    if scr_fiq(scr) {
-        let link = wrapping_add_u32(pc, 4);
-        return take(
-            block,
-            cpsr,
-            scr,
-            Exception::Fiq,
-            Mode::MONITOR.number,
-            offset::FIQ,
-            link,
-            buffer,
-        );
+    Entry {
+        to: kind.own_mode(),
+        offset: kind.own_offset(),
+        link: pc.wrapping_add(kind.addend()),
     }
-    if goes_to_hyp(cpsr, scr, hcr, hcr_fmo(hcr)) {
-        return take(
-            block,
-            cpsr,
-            scr,
-            Exception::Fiq,
-            Mode::HYP.number,
-            offset::FIQ,
-            pc,
-            buffer,
-        );
-    }
-    let link = wrapping_add_u32(pc, 4);
-    take(
-        block,
-        cpsr,
-        scr,
-        Exception::Fiq,
-        Mode::FIQ.number,
-        offset::FIQ,
-        link,
-        buffer,
-    )
 }
 
-fn irq(block: &mut [u8], cpsr: u32, scr: u32, hcr: u32, pc: u32, buffer: &mut [u8]) -> u32
-    requires { Lent block.old buffer.old cpsr scr }
-    ensures { Carried block.old (taken_by Irq (physical_way irq cpsr scr hcr pc)) result
-        block.new buffer.new }
+// A physical exception, and a virtual one. Each is called with a kind that is named, so that the compiler makes one of its own for each.
+#[inline(always)]
+fn take_physical(block: &mut [u8; BLOCK_SIZE], status: Status, hcr: u32, kind: Kind) -> Verdict
+    requires { ReadFrom block.old status }
+    ensures { CameTo block.old
+        (taken_by (physical (the_kind kind)) (physical_way (the_kind kind) status.cpsr status.scr hcr (word block.old pc_place)))
+        (Ok result) block.new }
 {
-    if scr_irq(scr) {
-        let link = wrapping_add_u32(pc, 4);
-        return take(
-            block,
-            cpsr,
-            scr,
-            Exception::Irq,
-            Mode::MONITOR.number,
-            offset::IRQ,
-            link,
-            buffer,
-        );
-    }
-    if goes_to_hyp(cpsr, scr, hcr, hcr_imo(hcr)) {
-        return take(
-            block,
-            cpsr,
-            scr,
-            Exception::Irq,
-            Mode::HYP.number,
-            offset::IRQ,
-            pc,
-            buffer,
-        );
-    }
-    let link = wrapping_add_u32(pc, 4);
-    take(
-        block,
-        cpsr,
-        scr,
-        Exception::Irq,
-        Mode::IRQ.number,
-        offset::IRQ,
-        link,
-        buffer,
-    )
+    let entry = physical_entry(kind, status, hcr, get_word(block, place::PC));
+    take(block, status, kind.physical(), entry)
+}
+
+#[inline(always)]
+fn take_virtual(block: &mut [u8; BLOCK_SIZE], status: Status, kind: Kind) -> Verdict
+    requires { ReadFrom block.old status }
+    ensures { CameTo block.old (taken_by (virtual (the_kind kind)) (virtual_way (the_kind kind) (word block.old pc_place)))
+        (Ok result) block.new }
+{
+    let entry = own_entry(kind, get_word(block, place::PC));
+    take(block, status, kind.virtual_one(), entry)
 }
 
 // The exception that was found, from the block whose HCR this is.
+#[tactic(auto, unfolding(interrupts::specs::Check::way))]
 fn take_found(
-    block: &mut [u8],
-    cpsr: u32,
-    scr: u32,
+    block: &mut [u8; BLOCK_SIZE],
+    status: Status,
     hcr: u32,
     x: Exception,
-    buffer: &mut [u8],
-) -> u32
-    requires { Lent block.old buffer.old cpsr scr }
-    ensures { Carried block.old (taken_by x (way x cpsr scr hcr (word block.old PC))) result
-        block.new buffer.new }
+) -> Result<Verdict, Refusal>
+    requires { ReadFrom block.old status }
+    ensures { CameTo block.old (taken_by x (way x status.cpsr status.scr hcr (word block.old pc_place))) result block.new }
 {
-    let pc = get_word(block, place::PC);
     match x {
-        Exception::Synchronous => refuse(buffer, number::NOT_HERE),
-        Exception::SError => serror(block, cpsr, scr, hcr, pc, buffer),
-        Exception::Fiq => fiq(block, cpsr, scr, hcr, pc, buffer),
-        Exception::Irq => irq(block, cpsr, scr, hcr, pc, buffer),
-        Exception::VirtualSError => {
-            let link = wrapping_add_u32(pc, 8);
-            take(
-                block,
-                cpsr,
-                scr,
-                x,
-                Mode::ABORT.number,
-                offset::SERROR,
-                link,
-                buffer,
-            )
-        }
-        Exception::VirtualFiq => {
-            let link = wrapping_add_u32(pc, 4);
-            take(
-                block,
-                cpsr,
-                scr,
-                x,
-                Mode::FIQ.number,
-                offset::FIQ,
-                link,
-                buffer,
-            )
-        }
-        Exception::VirtualIrq => {
-            let link = wrapping_add_u32(pc, 4);
-            take(
-                block,
-                cpsr,
-                scr,
-                x,
-                Mode::IRQ.number,
-                offset::IRQ,
-                link,
-                buffer,
-            )
-        }
+        Exception::Synchronous => Err(Refusal::NotHere),
+        Exception::SError => Ok(take_physical(block, status, hcr, Kind::SError)),
+        Exception::Fiq => Ok(take_physical(block, status, hcr, Kind::Fiq)),
+        Exception::Irq => Ok(take_physical(block, status, hcr, Kind::Irq)),
+        Exception::VirtualSError => Ok(take_virtual(block, status, Kind::SError)),
+        Exception::VirtualFiq => Ok(take_virtual(block, status, Kind::Fiq)),
+        Exception::VirtualIrq => Ok(take_virtual(block, status, Kind::Irq)),
     }
 }
 
-pub fn check(block: &mut [u8], cpsr: u32, scr: u32, a: u32, b: u32, buffer: &mut [u8]) -> u32
-    requires { Ready block.old buffer.old cpsr scr }
-    ensures { Carried block.old (action block.old (record { code = INTERRUPT_CHECK; a = a; b = b })) result
-        block.new buffer.new }
-{
-    if beyond(a, LINE_VALUES, b) {
-        return refuse(buffer, number::BAD_EVENT);
-    }
-    let hcr = get_word(block, place::HCR);
-    let found = first_takeable(a, cpsr, scr, hcr);
-    match found {
-        Found::Nothing => done(buffer, Verdict::NothingTaken(a)),
-        Found::First(x) => take_found(block, cpsr, scr, hcr, x, buffer),
+pub struct InterruptCheck;
+
+impl Rule for InterruptCheck {
+    ghost code = { INTERRUPT_CHECK };
+
+    fn apply(
+        block: &mut [u8; BLOCK_SIZE],
+        operands: Operands,
+        status: Status,
+    ) -> Result<Verdict, Refusal> {
+        if !operands.are_within(LINE_VALUES) {
+            return Err(Refusal::BadEvent);
+        }
+        let hcr = get_word(block, place::HCR);
+        match first_takeable(operands.a, status, hcr) {
+            Some(x) => take_found(block, status, hcr, x),
+            None => Ok(Verdict::NothingTaken(operands.a)),
+        }
     }
 }

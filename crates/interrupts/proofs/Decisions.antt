@@ -20,7 +20,8 @@ use Rattle.interrupts.specs.Decision.{NOT_TAKEN, TO_MONITOR, TO_HYP, TO_DEFAULT,
 use Rattle.interrupts.specs.Former.{entry_as_stored, changed}
 use Rattle.interrupts.specs.Kind.{Kind, serror, fiq, irq, line, R, M, W, mask, own_mode}
 use Rattle.interrupts.specs.Masking.{obeyed}
-use Rattle.interrupts.specs.Takeable.{pending, masked, takeable, physical_masked}
+use Rattle.interrupts.proofs.Laws.{can_take}
+use Rattle.interrupts.specs.Takeable.{pending, masked, takeable}
 
 abbrev pub decisions : List (List ℕ)
 decisions =
@@ -127,13 +128,6 @@ by_class p msk w m tge r false false h = by_bits p msk w m tge r 1 (lit< tt)
 by_class p msk w m tge r true true h = absurd (true_is_not_false refl h)
 
 -- ---- the same of any kind
-
-can_take : (k : Kind) (lines cpsr scr hcr : ℕ)
-    → takeable (physical k) lines cpsr scr hcr ≡ (line k lines && not (physical_masked k cpsr scr hcr))
-unfolding takeable pending masked
-can_take serror lines cpsr scr hcr = refl
-can_take fiq lines cpsr scr hcr = refl
-can_take irq lines cpsr scr hcr = refl
 
 -- none of the default modes is Monitor or Hyp
 number_of : (k : Kind) (r is_to_hyp : Bool)

@@ -1,11 +1,12 @@
--- The masking table asked quickly, the virtual exceptions asked together, and the first of the six on each way through.
-use Rattle.std.specs.Prelude.{if◌then◌else◌}
+-- The masking table asked quickly, the physical exceptions by their kind, the virtual ones asked together, and the first of the six on
+-- each way through.
+use Rattle.std.specs.Prelude.{Option, None, Some, if◌then◌else◌}
 use mathlib.Core.Path.{◌≡◌, refl, ap, ◌∙◌}
 use mathlib.Core.Bool.{Bool, true, false, not, ◌&&◌, ◌||◌}
 use mathlib.Core.List.{List, [], ◌∷◌}
 use Prim.Native.Nat.{ℕ, suc}
 use lib.Dec.{eqb}
-use borrow.Author.Tests.{eqb-true}
+use borrow.Author.Tests.{eqb-true, eqb-false}
 use Rattle.state.specs.Choice.{◌is◌}
 use Rattle.state.specs.Field.{mode_field, SCR_NS, HCR_TGE}
 use Rattle.state.specs.Mode.{HYP, guest}
@@ -13,14 +14,12 @@ use Rattle.state.specs.State.{secure}
 use Rattle.state.proofs.Laws.{in_guest}
 use Rattle.state.proofs.Test.{same, same_eq, every_bit, at_bit}
 use Rattle.interrupts.specs.Check.{first_of, found}
-use borrow.Author.Tests.{eqb-false}
+use Rattle.interrupts.specs.Decision.{physical}
 use Rattle.interrupts.specs.Exception.{Exception, Synchronous, SError, Fiq, Irq, VirtualSError, VirtualFiq, VirtualIrq, which}
 use Rattle.interrupts.specs.Kind.{Kind, serror, fiq, irq, line, R, M, acting_M, W, mask, source}
 use Rattle.interrupts.specs.Masking.{Row, table, covers, fits, obeyed}
 use Rattle.interrupts.specs.Parts.{virtual_here, taken_if, takes_virtual}
 use Rattle.interrupts.specs.Takeable.{physical_masked, virtual_pending, pending, masked, takeable}
-use Rattle.interrupts.specs.declared.check.Found.{Found}
-use Rattle.interrupts.specs.declared.check.Found.TheVariants.{Nothing, First}
 
 -- every state has one row of the masking table, and only one
 abbrev fitting : List Row → Bool → Bool → Bool → Bool → Bool → ℕ
@@ -88,6 +87,14 @@ pub virtual_tests : (k : Kind) (lines cpsr hcr : ℕ) {m src msk v : Bool} → m
     → msk ≡ mask k cpsr → v ≡ taken_if m src msk → v ≡ takes_virtual k lines cpsr hcr
 virtual_tests k lines cpsr hcr p q r e = cc
 
+-- a physical exception can be taken by its line and what masks it
+pub can_take : (k : Kind) (lines cpsr scr hcr : ℕ)
+    → takeable (physical k) lines cpsr scr hcr ≡ (line k lines && not (physical_masked k cpsr scr hcr))
+unfolding takeable pending masked
+can_take serror lines cpsr scr hcr = refl
+can_take fiq lines cpsr scr hcr = refl
+can_take irq lines cpsr scr hcr = refl
+
 -- the same of a physical exception, whose line is asked apart from what masks it; its override bit acts with TGE
 pub physical_tests : (k : Kind) (lines cpsr scr hcr : ℕ) {msk sec hyp stored m r w v : Bool} → msk ≡ mask k cpsr
     → sec ≡ secure cpsr scr → hyp ≡ (mode_field cpsr is HYP) → stored ≡ M k hcr → m ≡ (stored || HCR_TGE hcr) → r ≡ R k scr
@@ -109,63 +116,65 @@ module _ (lines cpsr scr hcr : ℕ) where
   abbrev can : Exception → Bool
   can x = takeable x lines cpsr scr hcr
 
-  pub first_serror : can SError ≡ true → First SError ≡ found lines cpsr scr hcr
+  pub first_serror : can SError ≡ true → Some SError ≡ found lines cpsr scr hcr
   unfolding found
   first_serror a = rw a
 
-  pub first_fiq : can SError ≡ false → can Fiq ≡ true → First Fiq ≡ found lines cpsr scr hcr
+  pub first_fiq : can SError ≡ false → can Fiq ≡ true → Some Fiq ≡ found lines cpsr scr hcr
   unfolding found
   first_fiq a b = rw (a, b)
 
-  pub first_irq : can SError ≡ false → can Fiq ≡ false → can Irq ≡ true → First Irq ≡ found lines cpsr scr hcr
+  pub first_irq : can SError ≡ false → can Fiq ≡ false → can Irq ≡ true → Some Irq ≡ found lines cpsr scr hcr
   unfolding found
   first_irq a b c = rw (a, b, c)
 
+  pub serror_is : can VirtualSError ≡ (virtual_here cpsr scr hcr && takes_virtual serror 0 cpsr hcr)
+  unfolding takeable pending masked
+  serror_is = virtual_taken serror lines cpsr scr hcr
+
+  pub fiq_is : can VirtualFiq ≡ (virtual_here cpsr scr hcr && takes_virtual fiq lines cpsr hcr)
+  unfolding takeable pending masked
+  fiq_is = virtual_taken fiq lines cpsr scr hcr
+
+  pub irq_is : can VirtualIrq ≡ (virtual_here cpsr scr hcr && takes_virtual irq lines cpsr hcr)
+  unfolding takeable pending masked
+  irq_is = virtual_taken irq lines cpsr scr hcr
+
   module _ (none : NonePhysical lines cpsr scr hcr) where
-    rest : {x : Found} → x ≡ first_of (VirtualSError ∷ VirtualFiq ∷ VirtualIrq ∷ []) lines cpsr scr hcr
+    rest : {x : Option Exception} → x ≡ first_of (VirtualSError ∷ VirtualFiq ∷ VirtualIrq ∷ []) lines cpsr scr hcr
         → x ≡ found lines cpsr scr hcr
     unfolding found
     rest h = rw (none.0, none.1, none.2) h
 
-    serror_is : can VirtualSError ≡ (virtual_here cpsr scr hcr && takes_virtual serror 0 cpsr hcr)
-    unfolding takeable pending masked
-    serror_is = virtual_taken serror lines cpsr scr hcr
-
-    fiq_is : can VirtualFiq ≡ (virtual_here cpsr scr hcr && takes_virtual fiq lines cpsr hcr)
-    unfolding takeable pending masked
-    fiq_is = virtual_taken fiq lines cpsr scr hcr
-
-    irq_is : can VirtualIrq ≡ (virtual_here cpsr scr hcr && takes_virtual irq lines cpsr hcr)
-    unfolding takeable pending masked
-    irq_is = virtual_taken irq lines cpsr scr hcr
-
-    pub nothing_virtual : virtual_here cpsr scr hcr ≡ false → Nothing ≡ found lines cpsr scr hcr
+    pub nothing_virtual : virtual_here cpsr scr hcr ≡ false → None ≡ found lines cpsr scr hcr
     nothing_virtual n = rest (rw (serror_is, fiq_is, irq_is, n))
 
     pub first_virtual_serror : virtual_here cpsr scr hcr ≡ true → takes_virtual serror 0 cpsr hcr ≡ true
-        → First VirtualSError ≡ found lines cpsr scr hcr
+        → Some VirtualSError ≡ found lines cpsr scr hcr
     first_virtual_serror n s = rest (rw (serror_is, n, s))
 
     pub first_virtual_fiq : virtual_here cpsr scr hcr ≡ true → takes_virtual serror 0 cpsr hcr ≡ false
-        → takes_virtual fiq lines cpsr hcr ≡ true → First VirtualFiq ≡ found lines cpsr scr hcr
+        → takes_virtual fiq lines cpsr hcr ≡ true → Some VirtualFiq ≡ found lines cpsr scr hcr
     first_virtual_fiq n s f = rest (rw (serror_is, fiq_is, n, s, f))
 
     pub first_virtual_irq : {t : Bool} → virtual_here cpsr scr hcr ≡ true → takes_virtual serror 0 cpsr hcr ≡ false
         → takes_virtual fiq lines cpsr hcr ≡ false → takes_virtual irq lines cpsr hcr ≡ t
-        → (if t then First VirtualIrq else Nothing) ≡ found lines cpsr scr hcr
+        → (if t then Some VirtualIrq else None) ≡ found lines cpsr scr hcr
     first_virtual_irq n s f i = rest (rw (serror_is, fiq_is, irq_is, n, s, f, i))
 
+pub ruleset virtual_parts = (serror_is, fiq_is, irq_is)
+
 -- what a check finds is nothing or one of the six
-pub found_cases : (P : Found → Type 0) (lines cpsr scr hcr : ℕ) → P Nothing
-    → ((x : Exception) → (x ≡ Synchronous → ⊥) → takeable x lines cpsr scr hcr ≡ true → P (First x))
+pub found_cases : (P : Option Exception → Type 0) (lines cpsr scr hcr : ℕ) → P None
+    → ((x : Exception) → (x ≡ Synchronous → ⊥) → takeable x lines cpsr scr hcr ≡ true → P (Some x))
     → P (found lines cpsr scr hcr)
 unfolding found
 found_cases P lines cpsr scr hcr none some =
     try SError refl (try Fiq refl (try Irq refl (try VirtualSError refl (try VirtualFiq refl (try VirtualIrq refl none)))))
   where
-    try : (x : Exception) → (which x is 0) ≡ false → {r : Found} → P r → P (if takeable x lines cpsr scr hcr then First x else r)
+    try : (x : Exception) → (which x is 0) ≡ false → {r : Option Exception} → P r → P (if takeable x lines cpsr scr hcr then Some x else r)
     try x n {r} h = by (takeable x lines cpsr scr hcr) refl
       where
-        by : (t : Bool) → takeable x lines cpsr scr hcr ≡ t → P (if t then First x else r)
+        by : (t : Bool) → takeable x lines cpsr scr hcr ≡ t → P (if t then Some x else r)
         by true e = some x (λ q. eqb-false (which x) 0 n (ap which q)) e
         by false e = h

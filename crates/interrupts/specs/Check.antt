@@ -1,5 +1,5 @@
 -- What an interrupt check takes, and where that goes (document 01, "The interrupt check").
-use Rattle.std.specs.Prelude.{not, ◌&&◌, ◌||◌, List, [], ◌∷◌, ℕ, if◌then◌else◌}
+use Rattle.std.specs.Prelude.{Option, None, Some, not, ◌&&◌, ◌||◌, List, [], ◌∷◌, ℕ, if◌then◌else◌}
 use Rattle.state.specs.Choice.{◌is◌}
 use Rattle.state.specs.Field.{mode_field, HCR_TGE}
 use Rattle.state.specs.Mode.{MONITOR, HYP}
@@ -10,16 +10,14 @@ use Rattle.entry.specs.Way.{Way, Barred, Enter}
 use Rattle.interrupts.specs.Exception.{Exception, Synchronous, SError, Fiq, Irq, VirtualSError, VirtualFiq, VirtualIrq, order}
 use Rattle.interrupts.specs.Kind.{Kind, serror, fiq, irq, R, M, own_mode, own_offset, addend}
 use Rattle.interrupts.specs.Takeable.{takeable}
-use Rattle.interrupts.specs.declared.check.Found.{Found}
-use Rattle.interrupts.specs.declared.check.Found.TheVariants.{Nothing, First}
 
 -- "The first one takeable is taken, one per check"
-abbrev pub first_of : List Exception → ℕ → ℕ → ℕ → ℕ → Found
-first_of [] lines cpsr scr hcr = Nothing
+abbrev pub first_of : List Exception → ℕ → ℕ → ℕ → ℕ → Option Exception
+first_of [] lines cpsr scr hcr = None
 first_of (x ∷ xs) lines cpsr scr hcr =
-    if takeable x lines cpsr scr hcr then First x else first_of xs lines cpsr scr hcr
+    if takeable x lines cpsr scr hcr then Some x else first_of xs lines cpsr scr hcr
 
-unfoldable pub found : ℕ → ℕ → ℕ → ℕ → Found
+unfoldable pub found : ℕ → ℕ → ℕ → ℕ → Option Exception
 found lines cpsr scr hcr = first_of order lines cpsr scr hcr
 
 -- "Routing: Monitor if R; else Hyp if the mode is Hyp or if Non-secure with TGE or M; else Abort, FIQ, IRQ mode"

@@ -5,11 +5,19 @@ use Rattle.state.specs.Field.{bit, CPSR_A, CPSR_I, CPSR_F, SCR_IRQ, SCR_FIQ, SCR
 use Rattle.state.specs.Field.{HCR_AMO, HCR_VF, HCR_VI, HCR_VA, HCR_TGE}
 use Rattle.state.specs.Mode.{FIQ, IRQ, ABORT}
 use Rattle.entry.specs.Offset as offsets
+use Rattle.interrupts.specs.declared.kind.Kind as declared
+use Rattle.interrupts.specs.declared.kind.Kind.TheVariants as declared_kinds
 
 pub data Kind : Type 0 where
   serror : Kind
   fiq : Kind
   irq : Kind
+
+-- the code's name of a kind
+abbrev pub the_kind : declared.Kind → Kind
+the_kind declared_kinds.SError = serror
+the_kind declared_kinds.Fiq = fiq
+the_kind declared_kinds.Irq = irq
 
 -- the physical line: "lines 1 SError, 2 FIQ, 4 IRQ"
 abbrev pub line : Kind → ℕ → Bool

@@ -1,63 +1,56 @@
 // The first exception that can be taken, and whether Hyp is where it goes (document 01, "The interrupt check").
 ghost use Rattle.std.specs.Prelude.{◌≡◌, ◌&&◌, ◌||◌, not};
 ghost use Rattle.state.specs.Choice.{◌is◌};
-ghost use Rattle.state.specs.Field.{mode_field, HCR_TGE};
+ghost use Rattle.state.specs.Field.{mode_field, HCR_TGE as tge_of};
 ghost use Rattle.state.specs.Mode.{HYP};
 ghost use Rattle.state.specs.State.{secure};
 ghost use Rattle.interrupts.specs.Check.{found};
 
 use crate::exception::Exception;
-use crate::takeable::{
-    is_virtual_here, takes_fiq, takes_irq, takes_serror, takes_virtual_fiq, takes_virtual_irq,
-    takes_virtual_serror,
-};
-use state::field::hcr_tge;
-use state::state::{either, is_hyp, is_secure};
-
-// What a check finds.
-#[derive(Clone, Copy)]
-pub enum Found {
-    Nothing,
-    First(Exception),
-}
+use crate::kind::Kind;
+use crate::takeable::{is_virtual_here, takes, takes_virtual};
+use state::field::{HCR_TGE, is_set};
+use state::mode::Mode;
+use state::state::Status;
 
 // The first one takeable, in the order of the paper.
-pub fn first_takeable(lines: u32, cpsr: u32, scr: u32, hcr: u32) -> Found
-    ensures { result ≡ found lines cpsr scr hcr }
+#[tactic(auto, using(crate::proofs::Laws::virtual_parts), unfolding(crate::specs::Check::found))]
+pub fn first_takeable(lines: u32, status: Status, hcr: u32) -> Option<Exception>
+    ensures { result ≡ found lines status.cpsr status.scr hcr }
 {
-    if takes_serror(lines, cpsr, scr, hcr) {
-        return Found::First(Exception::SError);
+    if takes(Kind::SError, lines, status, hcr) {
+        return Some(Exception::SError);
     }
-    if takes_fiq(lines, cpsr, scr, hcr) {
-        return Found::First(Exception::Fiq);
+    if takes(Kind::Fiq, lines, status, hcr) {
+        return Some(Exception::Fiq);
     }
-    if takes_irq(lines, cpsr, scr, hcr) {
-        return Found::First(Exception::Irq);
+    if takes(Kind::Irq, lines, status, hcr) {
+        return Some(Exception::Irq);
     }
-    if !is_virtual_here(cpsr, scr, hcr) {
-        return Found::Nothing;
+    if !is_virtual_here(status, hcr) {
+        return None;
     }
-    if takes_virtual_serror(cpsr, hcr) {
-        return Found::First(Exception::VirtualSError);
+    if takes_virtual(Kind::SError, lines, status.cpsr, hcr) {
+        return Some(Exception::VirtualSError);
     }
-    if takes_virtual_fiq(lines, cpsr, hcr) {
-        return Found::First(Exception::VirtualFiq);
+    if takes_virtual(Kind::Fiq, lines, status.cpsr, hcr) {
+        return Some(Exception::VirtualFiq);
     }
-    if takes_virtual_irq(lines, cpsr, hcr) {
-        return Found::First(Exception::VirtualIrq);
+    if takes_virtual(Kind::Irq, lines, status.cpsr, hcr) {
+        return Some(Exception::VirtualIrq);
     }
-    Found::Nothing
+    None
 }
 
 // Does a physical exception with this M, whose R is 0, go to Hyp?
-pub fn goes_to_hyp(cpsr: u32, scr: u32, hcr: u32, m: bool) -> bool
-    ensures { result ≡ (mode_field cpsr is HYP || (not (secure cpsr scr) && (HCR_TGE hcr || m))) }
+pub fn goes_to_hyp(status: Status, hcr: u32, m: bool) -> bool
+    ensures { result ≡ (mode_field status.cpsr is HYP || (not (secure status.cpsr status.scr) && (tge_of hcr || m))) }
 {
-    if is_hyp(cpsr) {
+    if status.mode() == Mode::HYP {
         return true;
     }
-    if is_secure(cpsr, scr) {
+    if status.is_secure() {
         return false;
     }
-    either(hcr_tge(hcr), m)
+    is_set::<HCR_TGE>(hcr) | m
 }

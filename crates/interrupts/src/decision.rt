@@ -28,20 +28,15 @@ const DECISIONS: [[u8; 16]; 16] = [
     [4, 4, 4, 4, 4, 4, 4, 4, 4, 4, 4, 4, 4, 4, 4, 4], // unused, R 1, TGE 1
 ];
 
-fn wide(x: u8) -> u32
-    ensures { result ≡ x }
-{
-    x as u32
-}
-
 // The entry of an index; past the table there is no class.
+#[tactic(auto, using(crate::proofs::Decisions::decisions_right, crate::proofs::Decisions::decision_out))]
 pub fn decision(index: u32) -> u32
     ensures { result ≡ entry index }
 {
     if index < INDEXES {
         let line = (index / 16) as usize;
         let i = (index % 16) as usize;
-        wide(DECISIONS[line][i])
+        u32::from(DECISIONS[line][i])
     } else {
         NO_CLASS
     }

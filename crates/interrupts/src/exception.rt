@@ -2,7 +2,8 @@
 ghost use Rattle.std.specs.Prelude.{◌≡◌, ◌<◌};
 ghost use Rattle.interrupts.specs.Exception.{which};
 
-#[derive(Clone, Copy)]
+// In the order of the numbers that a value reports them by.
+#[derive(Clone, Copy, Debug, PartialEq, Eq)]
 pub enum Exception {
     Synchronous,
     SError,
@@ -18,13 +19,5 @@ pub fn which_of(x: Exception) -> u32
     ensures value { result ≡ which x }
     ensures small { result < 7 }
 {
-    match x {
-        Exception::Synchronous => 0,
-        Exception::SError => 1,
-        Exception::Fiq => 2,
-        Exception::Irq => 3,
-        Exception::VirtualSError => 4,
-        Exception::VirtualFiq => 5,
-        Exception::VirtualIrq => 6,
-    }
+    x as u32
 }

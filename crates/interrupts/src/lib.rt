@@ -5,4 +5,5 @@
 pub mod check;
 pub mod decision;
 pub mod exception;
+pub mod kind;
 pub mod takeable;

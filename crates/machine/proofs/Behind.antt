@@ -1,5 +1,5 @@
 -- An event that the old layout knows touches no byte behind the old block: every word that it writes lies before HDCR.
-use Rattle.std.specs.Prelude.{if◌then◌else◌}
+use Rattle.std.specs.Prelude.{Option, if◌then◌else◌}
 use mathlib.Core.Path.{◌≡◌, refl, ◌∙◌}
 use mathlib.Core.Bool.{Bool, true, false, not, ◌&&◌, ◌||◌}
 use mathlib.Core.List.{List}
@@ -19,7 +19,6 @@ use Rattle.entry.specs.Code.{PREFETCH_ABORT}
 use Rattle.entry.specs.Enter.{ns_cleared, written, entered}
 use Rattle.entry.specs.Way.{Way, Barred, Enter}
 use Rattle.entry.proofs.Entered.{spsr_low, lr_low}
-use Rattle.interrupts.specs.declared.check.Found.{Found}
 use Rattle.interrupts.specs.declared.exception.Exception.{Exception}
 use Rattle.interrupts.proofs.Laws.{found_cases}
 use Rattle.rules.specs.Event.{NOTE}
@@ -98,7 +97,7 @@ done_below : (b : List ℕ) (code a w : ℕ) → Passed b (record { code = code;
     → unknown_to_old (record { code = code; a = a; b = w }) ≡ false → Below (done_action b (record { code = code; a = a; b = w }))
 done_below b code a w p known =
     by_code Below b code a w
-    (λ e. found_cases (λ (f : Found). Below (checked_in b a f)) a (word b CPSR) (word b SCR) (word b HCR) tt
+    (λ e. found_cases (λ (f : Option Exception). Below (checked_in b a f)) a (word b CPSR) (word b SCR) (word b HCR) tt
     (λ x k t. taken_below x (interrupt_way b x)))
     (λ e. tt)
     (λ e. let i = inside_registers a (write_a a w (rw e at p.event)) (rw e at p.register) in omega arith)

@@ -1,6 +1,6 @@
 -- An interrupt check takes the first exception that is pending and not masked: by what is found, the answer and the block
 -- are those of its entry, or nothing is taken.
-use Rattle.std.specs.Prelude.{if◌then◌else◌}
+use Rattle.std.specs.Prelude.{Option, None, Some, if◌then◌else◌}
 use mathlib.Core.Path.{◌≡◌, refl, sym, ap, ◌∙◌}
 use mathlib.Core.Bool.{Bool, true, false, not}
 use mathlib.Core.List.{List, [], ◌∷◌}
@@ -18,8 +18,6 @@ use Rattle.entry.specs.Way.{Way, Barred, Enter}
 use Rattle.interrupts.specs.Check as interrupt
 use Rattle.interrupts.specs.Exception.{which, order}
 use Rattle.interrupts.specs.Takeable.{pending, masked, takeable}
-use Rattle.interrupts.specs.declared.check.Found.{Found}
-use Rattle.interrupts.specs.declared.check.Found.TheVariants.{Nothing, First}
 use Rattle.interrupts.specs.declared.exception.Exception.{Exception}
 use Rattle.interrupts.specs.declared.exception.Exception.TheVariants.{Synchronous, SError, Fiq, Irq}
 use Rattle.interrupts.specs.declared.exception.Exception.TheVariants.{VirtualSError, VirtualFiq, VirtualIrq}
@@ -105,24 +103,24 @@ module _ (b : List ℕ) (e : Event) where
 
   -- ---- what is found
 
-  abbrev Says : List Exception → Found → Type 0
-  Says xs Nothing = OneOf (CanBeTaken b e) xs → ⊥
-  Says xs (First x) = TheFirst (CanBeTaken b e) xs x
+  abbrev Says : List Exception → Option Exception → Type 0
+  Says xs None = OneOf (CanBeTaken b e) xs → ⊥
+  Says xs (Some x) = TheFirst (CanBeTaken b e) xs x
 
   says : (xs : List Exception) → Says xs (interrupt.first_of xs e.a (word b CPSR) (word b SCR) (word b HCR))
   says [] = λ o. o
   says (x ∷ xs) = by (can x) refl _ (says xs)
     where
-      by : (t : Bool) → can x ≡ t → (f : Found) → Says xs f → Says (x ∷ xs) (if t then First x else f)
+      by : (t : Bool) → can x ≡ t → (f : Option Exception) → Says xs f → Says (x ∷ xs) (if t then Some x else f)
       by true h f s = this (can_be x h)
-      by false h (First y) s = another (cannot x h) s
-      by false h Nothing s = none
+      by false h (Some y) s = another (cannot x h) s
+      by false h None s = none
         where
           none : OneOf (CanBeTaken b e) (x ∷ xs) → ⊥
           none (inl p) = cannot x h p
           none (inr o) = s o
 
-  abbrev found : Found
+  abbrev found : Option Exception
   found = found_in b e.a
 
   found_says : Says order found
@@ -169,15 +167,15 @@ module _ (b : List ℕ) (e : Event) where
     is_checked = rw (eq-eqb (refusal b e) DONE done, check)
 
     -- what it comes to, by what is found
-    abbrev Outcome : Found → Type 0
-    Outcome Nothing = TakesNothing b e × (OneOf (CanBeTaken b e) order → ⊥)
-    Outcome (First x) = EntersBy b e x × TheFirst (CanBeTaken b e) order x
+    abbrev Outcome : Option Exception → Type 0
+    Outcome None = TakesNothing b e × (OneOf (CanBeTaken b e) order → ⊥)
+    Outcome (Some x) = EntersBy b e x × TheFirst (CanBeTaken b e) order x
 
     outcome : Outcome found
     unfolding answer after value
     outcome = by found refl found_says
       where
-        nothing : found ≡ Nothing → TakesNothing b e
+        nothing : found ≡ None → TakesNothing b e
         nothing h =
             let a = is_checked ∙ ap (checked_in b e.a) h in
             record {
@@ -186,7 +184,7 @@ module _ (b : List ℕ) (e : Event) where
               leaves = ap (block_after b) a;
             }
 
-        enters : (x : Exception) → found ≡ First x → (x ≡ Synchronous → ⊥) → EntersBy b e x
+        enters : (x : Exception) → found ≡ Some x → (x ≡ Synchronous → ⊥) → EntersBy b e x
         enters x h n = on (routed x) refl
           where
             on : (w : Way) → routed x ≡ w → EntersBy b e x
@@ -203,15 +201,15 @@ module _ (b : List ℕ) (e : Event) where
                   leaves = ap (block_after b) a;
                 }
 
-        by : (f : Found) → found ≡ f → Says order f → Outcome f
-        by Nothing h s = (nothing h, s)
-        by (First x) h s = (enters x h (not_synchronous x (first_is order s)), s)
+        by : (f : Option Exception) → found ≡ f → Says order f → Outcome f
+        by None h s = (nothing h, s)
+        by (Some x) h s = (enters x h (not_synchronous x (first_is order s)), s)
 
     -- ---- in the customer's words
 
-    exactly' : (f : Found) → Outcome f → Takes b e ↔ OneOf (CanBeTaken b e) order
-    exactly' Nothing (n, none) = (λ t. absurd (not_nothing t.entry n), λ o. absurd (none o))
-    exactly' (First x) (p, first) = (λ t. one_of order first, λ o. record { exception = x; entry = p })
+    exactly' : (f : Option Exception) → Outcome f → Takes b e ↔ OneOf (CanBeTaken b e) order
+    exactly' None (n, none) = (λ t. absurd (not_nothing t.entry n), λ o. absurd (none o))
+    exactly' (Some x) (p, first) = (λ t. one_of order first, λ o. record { exception = x; entry = p })
 
     pub exactly : Takes b e ↔ OneOf (CanBeTaken b e) order
     exactly = exactly' found outcome
@@ -219,13 +217,13 @@ module _ (b : List ℕ) (e : Event) where
     pub the_first : (x : Exception) → EntersBy b e x → TheFirst (CanBeTaken b e) order x
     the_first x p = by found outcome
       where
-        by : (f : Found) → Outcome f → TheFirst (CanBeTaken b e) order x
-        by Nothing (n, none) = absurd (not_nothing p n)
-        by (First y) (q, first) = rw (same_exception p q) first
+        by : (f : Option Exception) → Outcome f → TheFirst (CanBeTaken b e) order x
+        by None (n, none) = absurd (not_nothing p n)
+        by (Some y) (q, first) = rw (same_exception p q) first
 
     pub quiet : (OneOf (CanBeTaken b e) order → ⊥) → TakesNothing b e
     quiet none = by found outcome
       where
-        by : (f : Found) → Outcome f → TakesNothing b e
-        by Nothing (n, s) = n
-        by (First x) (p, first) = absurd (none (one_of order first))
+        by : (f : Option Exception) → Outcome f → TakesNothing b e
+        by None (n, s) = n
+        by (Some x) (p, first) = absurd (none (one_of order first))

@@ -1,24 +1,29 @@
 -- The step put together: what was decided is carried out; over an answer buffer, a wrong size leaves both buffers.
+use Rattle.std.specs.Array.{IsWholeChunk}
 use mathlib.Core.Path.{◌≡◌, refl, sym, subst, ◌∙◌}
 use mathlib.Core.Bool.{false}
 use mathlib.Core.List.{List}
 use Prim.Native.Nat.{ℕ, ◌<◌, ◌^◌}
 use lib.ListN.{length}
-use borrow.Author.Tests.{eq-eqb, ne_eqb}
+use borrow.Author.Tests.{eqb-false, eq-eqb, ne_eqb}
 use Rattle.words.specs.Word.{word}
+use Rattle.state.specs.Choice.{◌is◌}
 use Rattle.state.specs.Number.{DONE, BAD_SIZE, BAD_EVENT}
 use Rattle.state.specs.Place.{BLOCK_SIZE, CPSR, SCR, HCR}
+use Rattle.state.specs.Refusal.{number}
 use Rattle.state.specs.State.{fault, fault_of}
+use Rattle.state.specs.declared.refusal.Refusal.{Refusal}
+use Rattle.state.specs.declared.refusal.Refusal.TheVariants.{BadEvent}
 use Rattle.state.proofs.Sets.{Unlike, unlike_among}
 use Rattle.entry.specs.Code.{codes, is_known}
 use Rattle.rules.specs.declared.event.Event.{Event}
 use Rattle.rules.specs.Step.{ANSWER_SIZE, Action, Refuse, action, answer_to, block_after, answer, after, number_returned}
 use Rattle.rules.specs.Step.{block_left, answer_left, answer_bytes}
 use Rattle.rules.specs.Known.{direct, SeenCode}
-use Rattle.rules.specs.Parts.{Carried, Ready, Told}
+use Rattle.rules.specs.Parts.{Carried, Told}
 use Rattle.rules.specs.Verdict.{refused_with}
 use Rattle.rules.specs.declared.verdict.Answer.{Answer}
-use Rattle.rules.proofs.Carrying.{refused}
+use Rattle.rules.proofs.Carrying.{refused, carried, refuses}
 use Rattle.rules.proofs.Deciding.{event, bad_size, faulty, fault_read, no_code}
 
 module _ (b : List ℕ) (e : Event) where
@@ -43,10 +48,6 @@ module _ (b : List ℕ) (e : Event) where
   pub performed : {n : ℕ} {l m : List ℕ} → Carried b (action b e) n l m → Performed n l m
   unfolding answer after
   performed h = (h.1.0, (h.0, (h.1.1, h.1.2)))
-
-  -- the same, of an event d that is seen as e
-  pub performed_as : (d : Event) {n : ℕ} {l m : List ℕ} → d ≡ e → Carried b (action b d) n l m → Performed n l m
-  performed_as d {n} {l} {m} q h = performed (subst (λ x. Carried b (action b x) n l m) q h)
 
   -- over an answer buffer
   module _ (buffer : List ℕ) where
@@ -73,36 +74,27 @@ module _ (b : List ℕ) (e : Event) where
         let u = eq-eqb (length buffer) ANSWER_SIZE z in
         (rw (t, u) p.0, (rw (t, u) p.1.0, rw (t, u) p.1.1.0))
 
--- what an arm carried out is the event of its code
-pub arm : (b : List ℕ) (a w : ℕ) {code k n : ℕ} {l m : List ℕ} → code ≡ k → Carried b (action b (event k a w)) n l m
-    → Carried b (action b (event code a w)) n l m
-arm b a w e h = rw e h
-
 -- a code that is no arm's, as the last of them knows it
-pub no_arm : (code : ℕ) → Unlike (Unit {0}) code codes → is_known code ≡ false
+no_arm : (code : ℕ) → Unlike (Unit {0}) code codes → is_known code ≡ false
 no_arm code h = (unlike_among (Unit {0}) code codes h).1
 
--- the three words that were read of a block, and the fault n of these
-module _ (b : List ℕ) (s : length b ≡ BLOCK_SIZE) {cpsr scr hcr n : ℕ} (ec : cpsr ≡ word b CPSR) (es : scr ≡ word b SCR)
-    (eh : hcr ≡ word b HCR) (f : n ≡ fault_of cpsr scr hcr) where
-  -- without a fault the events have all that they ask for
-  pub ready : (m : List ℕ) → length m ≡ ANSWER_SIZE → n ≡ DONE → Ready b m cpsr scr
-  ready m z d = ((s, z, ec, es), sym (fault_read b ec es eh f) ∙ d)
-
+-- by the three words that were read of a block
+module _ (b : List ℕ) (s : length b ≡ BLOCK_SIZE) {cpsr scr hcr : ℕ} (ec : cpsr ≡ word b CPSR) (es : scr ≡ word b SCR)
+    (eh : hcr ≡ word b HCR) where
   -- a fault refuses any event
-  pub refused_by_fault : (e : Event) → (n ≡ DONE → ⊥) → {k : ℕ} {l : List ℕ} → Told (refused_with n) k l
-      → Carried b (action b e) k b l
-  refused_by_fault e d t = refused b n (by_fault b e s (fault_read b ec es eh f) d) t
+  pub refused_by_fault : (e : Event) (r : Refusal) → number r ≡ fault_of cpsr scr hcr → {n : ℕ} {m : List ℕ}
+      → Told (refused_with (number r)) n m → Carried b (action b e) n b m
+  refused_by_fault e r f t =
+      carried b (action b e)
+      (refused b r (by_fault b e s (fault_read b ec es eh f) (eqb-false (number r) DONE (refuses r)))) t
 
-  -- and a code that is no arm's is refused
-  pub refused_by_code : n ≡ DONE → (code a w : ℕ) → Unlike (Unit {0}) code codes → {k : ℕ} {l : List ℕ}
-      → Told (refused_with BAD_EVENT) k l → Carried b (action b (event code a w)) k b l
-  refused_by_code d code a w u t =
-      refused b BAD_EVENT (no_code b a w s (sym (fault_read b ec es eh f) ∙ d) code (no_arm code u)) t
+  -- and without one a code that is no arm's is refused
+  pub refused_by_code : DONE ≡ fault_of cpsr scr hcr → (code a w : ℕ) → Unlike (Unit {0}) code codes → {n : ℕ} {m : List ℕ}
+      → Told (refused_with BAD_EVENT) n m → Carried b (action b (event code a w)) n b m
+  refused_by_code f code a w u t =
+      carried b (action b (event code a w))
+      (refused b BadEvent (no_code b a w s (sym (fault_read b ec es eh f)) code (no_arm code u))) t
 
--- what is carried out of the code that a direct step knows, on buffers of the right sizes, is the step
-pub known_stepped : (b buffer : List ℕ) (code a w : ℕ) {known : ℕ} → length b ≡ BLOCK_SIZE → length buffer ≡ ANSWER_SIZE
-    → SeenCode false code a known → {n : ℕ} {l m : List ℕ} → Carried b (action b (event known a w)) n l m
-    → Stepped b (direct (event code a w)) buffer n l m
-known_stepped b buffer code a w {known} s z k h =
-    right_sizes b (direct (event code a w)) buffer s z (performed_as b (direct (event code a w)) (event known a w) (k w) h)
+-- what is carried out on an array is carried out on the slice that it is
+pub on_slice : (e : Event) {b k : List ℕ} {n : ℕ} {l m : List ℕ} → k ≡ b → Carried k (action k e) n l m → Carried b (action b e) n l m
+on_slice e {n = n} {l = l} {m = m} q h = subst (λ (x : List ℕ). Carried x (action x e) n l m) q h

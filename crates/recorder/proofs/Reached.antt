@@ -1,6 +1,5 @@
 -- A recording, Step by Step: what stands in the buffer is the trace as far as it has come. It ends in the block that the events so
 -- far have left, which is the one that the next Step goes from.
-use Rattle.std.specs.Prelude.{if◌then◌else◌}
 use mathlib.Core.Path.{◌≡◌, sym, ap, ◌∙◌}
 use mathlib.Core.List.{List, [], ◌∷◌, ◌++◌, append_assoc, append-nil}
 use Prim.Native.Nat.{ℕ, suc, ◌+◌, ◌-◌, ◌*◌, ◌<◌, ◌≤◌}
@@ -9,9 +8,7 @@ use native.Mathlib.Nat.{mul-suc, mul-le-mul_left}
 use native.Mathlib.Numerals.{add-one}
 use lib.ListN.{length, get_or, take, drop, length-append}
 use lib.Seq.{take-suc, take_all, take_at, drop_at, length-take-le}
-use borrow.Author.Tests.{eq-eqb, ne_eqb}
 use Rattle.words.specs.Word.{le32}
-use Rattle.state.specs.Choice.{◌is◌}
 use Rattle.rules.specs.declared.event.Event.{Event}
 use Rattle.rules.specs.Run.{run_by}
 use Rattle.rules.specs.Step.{answer_bytes}
@@ -79,12 +76,6 @@ module _ (L : Layout) (LL : Lawful L) where
       steps_so_far : step_size L * i ≤ step_size L * length es
       steps_so_far = mul-le-mul_left (step_size L) h.few
 
-      -- the buffer is as long as it was
-      pub same_size : length s ≡ length s₀
-      same_size =
-          ap length h.stands
-          ∙ length_written s₀ (begun (length es) b (take i es)) offset (omega (arith, so_far, steps_so_far, may.inside))
-
       -- the bytes before the place are the block that the events so far have left
       block_before_lem : block_before L place s ≡ run L b (take i es)
       block_before_lem =
@@ -125,9 +116,6 @@ module _ (L : Layout) (LL : Lawful L) where
         room : place + step_size L ≤ length s₀
         room = omega (arith, may.inside, mul-suc (step_size L) i, mul-le-mul_left (step_size L) less)
 
-        pub room_for_a_step : place + step_size L ≤ length s
-        room_for_a_step = omega (arith, room, same_size)
-
         -- one Step more
         pub reached_next : (s' : List ℕ)
             → s' ≡ written_at s place (step_record L (block_before L place s) (get_or es i d))
@@ -167,9 +155,6 @@ module _ (L : Layout) (LL : Lawful L) where
         room_behind : place + end_size ≤ length s₀
         room_behind = omega (arith, end, may.inside)
 
-        pub room_for_the_end : offset + place_of L (length es) + end_size ≤ length s
-        room_for_the_end = omega (arith, end, room_behind, same_size)
-
         pub reached_all : (s' : List ℕ) → s' ≡ written_at s (offset + place_of L (length es)) (end_record (length es))
             → s' ≡ written_at s₀ offset (published L b es)
         unfolding published
@@ -180,57 +165,47 @@ module _ (L : Layout) (LL : Lawful L) where
             ∙ ap (λ (fs : List Event). written_at s₀ offset (begun n b fs ++ end_record n)) (take_all i es last)
             ∙ ap (written_at s₀ offset) (append_assoc (start_record L n b) (step_records L b es) (end_record n))
 
-  -- ---- what the checks and the Start have left, s₁, and what was to be shown
+  -- ---- the checks are passed, the Start has left s₁, and what was to be shown
 
-  module _ (b : List ℕ) (es : List Event) (s₀ : List ℕ) (offset n : ℕ) (s₁ : List ℕ)
-      (number : n ≡ record_number L (length b) (length es) (length s₀) offset)
-      (buffer : s₁ ≡ (if n is DONE then written_at s₀ offset (start_record L (length es) b) else s₀)) where
-    pub not_begun : (n ≡ DONE → ⊥) → s₁ ≡ s₀
-    not_begun refused = simp (ne_eqb n DONE refused) at buffer
+  module _ (b : List ℕ) (es : List Event) (s₀ : List ℕ) (offset : ℕ) (s₁ : List ℕ)
+      (done : DONE ≡ record_number L (length b) (length es) (length s₀) offset)
+      (begun_there : s₁ ≡ written_at s₀ offset (start_record L (length es) b)) where
+    abbrev start : List ℕ
+    start = start_record L (length es) b
 
-    pub recorded_not : (n ≡ DONE → ⊥) → Recorded L b es s₀ offset n s₁
-    recorded_not refused = record { number = number; buffer = simp (ne_eqb n DONE refused) (not_begun refused) }
+    may : Passed L (length b) (length es) (length s₀) offset
+    may = passed L (length b) (length es) (length s₀) offset (sym done)
 
-    module _ (done : n ≡ DONE) where
-      abbrev start : List ℕ
-      start = start_record L (length es) b
+    long : length start ≡ start_size L
+    long = length_start L LL (length es) b may.size
 
-      may : Passed L (length b) (length es) (length s₀) offset
-      may = passed L (length b) (length es) (length s₀) offset (sym number ∙ done)
+    as_long : length s₁ ≡ length s₀
+    as_long =
+        ap length begun_there
+        ∙ length_written s₀ start offset (omega (arith, may.inside, long))
 
-      begun_there : s₁ ≡ written_at s₀ offset start
-      begun_there = simp (eq-eqb n DONE done) at buffer
+    -- What is written from here on goes over s₁, in which the Start stands already.
+    pub may_go_on : Passed L (length b) (length es) (length s₁) offset
+    may_go_on = record { size = may.size; few = may.few; inside = omega (arith, as_long, may.inside) }
 
-      long : length start ≡ start_size L
-      long = length_start L LL (length es) b may.size
+    again : (r : List ℕ) → offset + (length start + length r) ≤ length s₀
+        → written_at s₁ offset (start ++ r) ≡ written_at s₀ offset (start ++ r)
+    again r h =
+        ap (λ (s : List ℕ). written_at s offset (start ++ r)) begun_there ∙ written_again s₀ start r offset h
 
-      pub begun_length : length s₁ ≡ length s₀
-      begun_length =
-          ap length begun_there
-          ∙ length_written s₀ start offset (omega (arith, may.inside, long))
+    pub begun_again : s₁ ≡ written_at s₁ offset start
+    begun_again =
+        let nothing = append-nil start in
+        begun_there
+        ∙ ap (written_at s₀ offset) (sym nothing)
+        ∙ sym (again [] (omega (arith, may.inside, long)))
+        ∙ ap (written_at s₁ offset) nothing
 
-      -- What is written from here on goes over s₁, in which the Start stands already.
-      pub may_go_on : Passed L (length b) (length es) (length s₁) offset
-      may_go_on = record { size = may.size; few = may.few; inside = omega (arith, begun_length, may.inside) }
-
-      again : (r : List ℕ) → offset + (length start + length r) ≤ length s₀
-          → written_at s₁ offset (start ++ r) ≡ written_at s₀ offset (start ++ r)
-      again r h =
-          ap (λ (s : List ℕ). written_at s offset (start ++ r)) begun_there ∙ written_again s₀ start r offset h
-
-      pub begun_again : s₁ ≡ written_at s₁ offset start
-      begun_again =
-          let nothing = append-nil start in
-          begun_there
-          ∙ ap (written_at s₀ offset) (sym nothing)
-          ∙ sym (again [] (omega (arith, may.inside, long)))
-          ∙ ap (written_at s₁ offset) nothing
-
-      pub recorded_all : (s' : List ℕ) → s' ≡ written_at s₁ offset (published L b es) → Recorded L b es s₀ offset DONE s'
-      unfolding published
-      recorded_all s' e =
-          let rest = step_records L b es ++ end_record (length es) in
-          let all : length (start ++ rest) ≡ place_of L (length es) + end_size = length-published L LL b es may.size in
-          let room : offset + (length start + length rest) ≤ length s₀ =
-          omega (arith, may.inside, all, length-append start rest) in
-          record { number = sym done ∙ number; buffer = e ∙ again rest room }
+    pub recorded_all : (s' : List ℕ) → s' ≡ written_at s₁ offset (published L b es) → Recorded L b es s₀ offset DONE s'
+    unfolding published
+    recorded_all s' e =
+        let rest = step_records L b es ++ end_record (length es) in
+        let all : length (start ++ rest) ≡ place_of L (length es) + end_size = length-published L LL b es may.size in
+        let room : offset + (length start + length rest) ≤ length s₀ =
+        omega (arith, may.inside, all, length-append start rest) in
+        record { number = done; buffer = e ∙ again rest room }

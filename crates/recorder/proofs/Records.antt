@@ -5,17 +5,19 @@ use Prim.Native.Nat.{ℕ, ◌+◌, ◌-◌, ◌*◌, ◌≤◌}
 use native.Mathlib.Omega.{arith}
 use lib.ListN.{length, take, drop, length-append, length-drop}
 use lib.Seq.{drop-drop, drop_at, take_at, take_all, take-add, take-length, length-take-le}
+use Rattle.std.specs.List.{copy_within}
+use Rattle.std.proofs.lemmas.List.{take-take, take-append-le, drop-take}
+use Rattle.std.proofs.lemmas.List.Edits.{take-paste, drop-paste}
 use Rattle.words.specs.Word.{le32, put}
 use Rattle.rules.specs.declared.event.Event.{Event}
+use Rattle.rules.specs.declared.verdict.Answer.{Answer}
 use Rattle.rules.specs.Known.{direct}
-use Rattle.rules.specs.Step.{ANSWER_SIZE, answer_bytes, answer, after, block_left, answer_left}
+use Rattle.rules.specs.Step.{ANSWER_SIZE, answer_bytes, answer, after}
 use Rattle.records.specs.Layout.{new_layout, start_size, step_size, end_size, end_kind, number_at, block_after_at}
 use Rattle.records.specs.Published.{head, event_bytes, start_record, step_showing, step_record, end_record}
 use Rattle.records.proofs.Lawfuls.{lawful_new}
 use Rattle.records.proofs.Records.{length_step}
 use Rattle.machine.proofs.Laws.{length_after}
-use Rattle.machine.proofs.Leaving.{lent}
-use Rattle.machine.proofs.Replay.{cleared}
 use Rattle.recorder.specs.Recorded.{written_at, block_before}
 use Rattle.recorder.proofs.Writing.{put_behind, over_part, written_same, write_middle}
 
@@ -94,39 +96,69 @@ start_written p b n k l {q} {r} {c} e₀ e₁ e₂ =
 
 -- ---- a Step, behind the block that it goes from
 
--- where its answer, and the block after it, begin there
-abbrev answer_at : ℕ
-answer_at = new_layout.size + number_at
-
+-- where the block after it begins there, and the word of its answer
 abbrev after_at : ℕ
 after_at = new_layout.size + block_after_at
 
+abbrev number_word : ℕ
+number_word = 49
+
+-- the block in front, copied to where the block after goes in two parts: its first 128 bytes, and behind them the other 52
+pub copied_in_two : (p : List ℕ) → new_layout.size + step_size new_layout ≤ length p → {q r : List ℕ}
+    → q ≡ copy_within p 0 128 after_at
+    → r ≡ copy_within q 128 new_layout.size (after_at + 128)
+    → r ≡ copy_within p 0 new_layout.size after_at
+copied_in_two p l {q} {r} e₀ e₁ =
+    let size = new_layout.size in
+    let long : length (take after_at p) ≡ after_at = length-take-le after_at p (omega (arith, l)) in
+    let front : take (after_at + 128) q ≡ take after_at p ++ take 128 p =
+    ap (take (after_at + 128)) e₀ ∙ take-paste p after_at p 128 (omega (arith, l)) (omega (arith, l)) in
+    -- the first copy leaves the block
+    let block : take size q ≡ take size p =
+    sym (take-take size (after_at + 128) q (omega (arith)))
+    ∙ ap (take size) front
+    ∙ take-append-le size (take after_at p) (take 128 p) (omega (arith, long))
+    ∙ take-take size after_at p (omega (arith)) in
+    let second : take 52 (drop 128 q) ≡ take 52 (drop 128 p) =
+    sym (drop-take 128 52 q) ∙ ap (drop 128) block ∙ drop-take 128 52 p in
+    let rest : drop (after_at + size) q ≡ drop (after_at + size) p =
+    sym (drop-drop 52 (after_at + 128) q)
+    ∙ ap (λ (d : List ℕ). drop 52 (drop (after_at + 128) d)) e₀
+    ∙ ap (drop 52) (drop-paste p after_at p 128 (omega (arith, l)) (omega (arith, l)))
+    ∙ drop-drop 52 (after_at + 128) p in
+    e₁
+    ∙ (λ i. (front i ++ second i) ++ rest i)
+    ∙ ap (λ (d : List ℕ). d ++ drop (after_at + size) p)
+    (append_assoc (take after_at p) (take 128 p) (take 52 (drop 128 p))
+    ∙ ap (λ (d : List ℕ). take after_at p ++ d) (sym (take-add 128 52 p)))
+
 -- q is p with its block copied to where the block after goes. The event is put; the block is stepped where it was copied to, by the
--- event d, as which e is seen; and the answer is put.
-pub step_written : (p : List ℕ) (e d : Event) → d ≡ direct e → new_layout.size + step_size new_layout ≤ length p → {q t c m u : List ℕ}
+-- event d, as which e is seen; and the two words of the answer are put.
+pub step_written : (p : List ℕ) (e d : Event) (x : Answer) → d ≡ direct e → new_layout.size + step_size new_layout ≤ length p
+    → {q t c u v : List ℕ}
     → let size = new_layout.size in
     let named_in = take size q ++ (t ++ drop (length q - size) (drop size q)) in
     let before = take size (drop after_at named_in) in
     let stepped = take after_at named_in ++ (c ++ drop size (drop after_at named_in)) in
-    q ≡ written_at p after_at (take size p)
+    q ≡ copy_within p 0 size after_at
     → t ≡ named e ++ drop number_at (take (length q - size) (drop size q))
-    → c ≡ block_left before d cleared
-    → m ≡ answer_left before d cleared
-    → u ≡ take (length m) m ++ drop (length m) (take (length stepped - answer_at) (drop answer_at stepped))
-    → take answer_at stepped ++ (u ++ drop (length stepped - answer_at) (drop answer_at stepped))
-    ≡ written_at p size (step_record new_layout (take size p) e)
+    → x ≡ answer before d
+    → c ≡ after before d
+    → u ≡ put stepped number_word x.number
+    → v ≡ put u (number_word + 1) x.value
+    → v ≡ written_at p size (step_record new_layout (take size p) e)
 unfolding step_showing
-step_written p e d seen l {q} {t} {c} {m} {u} e₀ e₁ e₂ e₃ e₄ =
+step_written p e d x seen l {q} {t} {c} {u} {v} e₀ e₁ e₂ e₃ e₄ e₅ =
     let size = new_layout.size in
     let b = take size p in
     let rest = drop (size + step_size new_layout) p in
     let long : length b ≡ size = length-take-le size p (omega (arith, l)) in
     -- what stood in the record's place, up to the block
     let words = take number_at (drop size p) in
-    let answer₀ = take ANSWER_SIZE (drop answer_at p) in
+    let answer₀ = take ANSWER_SIZE (drop (size + number_at) p) in
     let words_long : length words ≡ number_at = length-take-le number_at (drop size p) (omega (arith, l, length-drop size p)) in
     let answer-long : length answer₀ ≡ ANSWER_SIZE =
-    length-take-le ANSWER_SIZE (drop answer_at p) (omega (arith, l, length-drop answer_at p)) in
+    length-take-le ANSWER_SIZE (drop (size + number_at) p) (omega (arith, l, length-drop (size + number_at) p)) in
     let parted : take after_at p ≡ b ++ (words ++ answer₀) =
     take-add size block_after_at p
     ∙ ap (λ (d : List ℕ). b ++ d)
@@ -134,7 +166,8 @@ step_written p e d seen l {q} {t} {c} {m} {u} e₀ e₁ e₂ e₃ e₄ =
     -- the block stands twice
     let copied : q ≡ b ++ (words ++ (answer₀ ++ (b ++ rest))) =
     e₀
-    ∙ (λ i. parted i ++ (b ++ drop (after_at + long i) p))
+    ∙ append_assoc (take after_at p) b rest
+    ∙ (λ i. parted i ++ (b ++ rest))
     ∙ append_assoc b (words ++ answer₀) (b ++ rest)
     ∙ ap (λ (d : List ℕ). b ++ d) (append_assoc words answer₀ (b ++ rest)) in
     -- the event is put
@@ -151,11 +184,10 @@ step_written p e d seen l {q} {t} {c} {m} {u} e₀ e₁ e₂ e₃ e₄ =
     let behind : drop after_at named_in ≡ b ++ rest = ap (drop after_at) put_in ∙ drop_at front (b ++ rest) after_at front_long in
     let before : take size (drop after_at named_in) ≡ b = ap (take size) behind ∙ take_at b rest size long in
     -- the block is stepped where it was copied to
-    let step = lent b (direct e) cleared long refl in
+    let x' = answer b (direct e) in
     let c' = after b (direct e) in
-    let m' = answer_bytes (answer b (direct e)) in
-    let left : c ≡ c' = e₂ ∙ (λ i. block_left (before i) (seen i) cleared) ∙ step.1 in
-    let answered : m ≡ m' = e₃ ∙ (λ i. answer_left (before i) (seen i) cleared) ∙ step.2 in
+    let answered : x ≡ x' = e₂ ∙ (λ i. answer (before i) (seen i)) in
+    let left : c ≡ c' = e₃ ∙ (λ i. after (before i) (seen i)) in
     let stepped = take after_at named_in ++ (c ++ drop size (drop after_at named_in)) in
     let head_of : take after_at named_in ≡ front =
     ap (take after_at) put_in ∙ take_at front (b ++ rest) after_at front_long in
@@ -166,18 +198,16 @@ step_written p e d seen l {q} {t} {c} {m} {u} e₀ e₁ e₂ e₃ e₄ =
     ∙ sym (append_assoc b (named e) (answer₀ ++ (c' ++ rest))) in
     -- and the answer is put
     let long' : length c' ≡ size = length_after b (direct e) ∙ long in
-    let named-long : length (b ++ named e) ≡ answer_at = omega (arith, long, length-append b (named e)) in
-    let all = ap length stepped-in ∙ length-append (b ++ named e) (answer₀ ++ (c' ++ rest)) in
-    let m-long : length m ≡ ANSWER_SIZE = ap length answered in
-    let behind-it = drop (length m) (take (length stepped - answer_at) (drop answer_at stepped)) in
-    let put_last = e₄ ∙ ap (λ (d : List ℕ). d ++ behind-it) (take-length m) in
-    over_part stepped m u answer_at (length m) refl
-    (omega (arith, all, named-long, answer-long, m-long, length-append answer₀ (c' ++ rest))) put_last
-    ∙ (λ i. written_at (stepped-in i) answer_at (answered i))
-    ∙ write_middle (b ++ named e) answer₀ m' (c' ++ rest) answer_at named-long answer-long
-    ∙ append_assoc b (named e) (m' ++ (c' ++ rest))
+    let named-long : length (b ++ named e) ≡ 4 * number_word = omega (arith, long, length-append b (named e)) in
+    e₅
+    ∙ ap (λ (r : List ℕ). put r (number_word + 1) x.value) e₄
+    ∙ (λ i. put (put (stepped-in i) number_word (answered i).number) (number_word + 1) (answered i).value)
+    ∙ more (b ++ named e) (answer₀ ++ (c' ++ rest)) number_word x'.number x'.value named-long
+    (omega (arith, answer-long, length-append answer₀ (c' ++ rest)))
+    ∙ ap (λ (r : List ℕ). (b ++ named e) ++ (answer_bytes x' ++ r)) (drop_at answer₀ (c' ++ rest) ANSWER_SIZE answer-long)
+    ∙ append_assoc b (named e) (answer_bytes x' ++ (c' ++ rest))
     ∙ ap (λ (n : ℕ). b ++ (step_record new_layout b e ++ drop (size + n) p))
-    (sym (length_step new_layout lawful_new e (answer b (direct e)) c' long'))
+    (sym (length_step new_layout lawful_new e x' c' long'))
 
 -- the same in a buffer, at this place: the part that is lent begins with the block before
 pub step_behind : (s : List ℕ) (place before : ℕ) (e : Event) → place ≡ before + new_layout.size

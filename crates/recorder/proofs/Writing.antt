@@ -24,9 +24,6 @@ put_behind f r p w l h =
 
 -- ---- a part that begins at a place, and was written over from its front on
 
-pub length_part : (s : List ℕ) (at : ℕ) → length (take (length s - at) (drop at s)) ≡ length s - at
-length_part s at = length-take-le (length s - at) (drop at s) (omega (arith, length-drop at s))
-
 -- a callee was lent the bytes from the place on, and left r, of n bytes, and what stood behind as many
 pub over_part : (s r c : List ℕ) (at n : ℕ) → length r ≡ n → at + n ≤ length s
     → c ≡ r ++ drop n (take (length s - at) (drop at s))

@@ -4,18 +4,20 @@
 // needs no block of its own: the one before a Step is copied to its place in the new record, and stepped there.
 #![tactic(auto)]
 
-ghost use Rattle.std.specs.Prelude.{◌≡◌, ◌++◌, ◌+◌, ◌-◌, ◌≤◌, length, take, drop, if◌then◌else◌};
+ghost use Rattle.std.specs.Prelude.{◌≡◌, ◌++◌, ◌+◌, ◌≤◌, length, take, drop, if◌then◌else◌};
+ghost use Rattle.std.specs.List.{copy_within};
 ghost use Rattle.state.specs.Choice.{◌is◌};
 ghost use Rattle.records.specs.Layout.{new_layout, start_size, step_size, end_size, most_steps, place_of, number_at, block_after_at};
 ghost use Rattle.records.specs.Published.{head, event_bytes, start_record, step_record, end_record};
+ghost use Rattle.state.specs.Refusal.{number_of};
 ghost use Rattle.recorder.specs.Recorded.{DONE, written_at, block_before, trace_size, record_number};
 
-use machine::step::{ANSWER_SIZE, replay};
+use machine::step::step_event;
 use records::layout;
 use rules::event::Event;
 use rules::known::direct_code;
-use state::number;
 use state::place::BLOCK_SIZE;
+use state::refusal::Refusal;
 use words::put_word;
 use words::runs::copy;
 
@@ -37,12 +39,17 @@ const A: usize = 2;
 
 const B: usize = 3;
 
-// Where the answer of a Step begins, and the block after it begins and ends, in a part that begins with the block before it.
-const ANSWER: usize = BLOCK_SIZE + layout::NUMBER;
+// The words of a Step's answer, and where the block after it begins and ends, in a part that begins with the block before it.
+const NUMBER: usize = (BLOCK_SIZE + layout::NUMBER) / 4;
+
+const VALUE: usize = (BLOCK_SIZE + layout::VALUE) / 4;
 
 const AFTER: usize = BLOCK_SIZE + layout::BLOCK_AFTER;
 
 const AFTER_END: usize = AFTER + BLOCK_SIZE;
+
+// As many bytes of a block as the compiler moves without a call.
+const FRONT: usize = 128;
 
 // ---- the checks
 
@@ -53,24 +60,24 @@ fn trace_size(events: usize) -> usize
     START_SIZE + (STEP_SIZE * events + END_SIZE)
 }
 
-// What is answered, by the lengths of the block, the list of events and the buffer. The room is found by subtraction: a sum with
-// the offset could wrap.
-fn number_of(block: usize, events: usize, buffer: usize, offset: usize) -> u32
-    ensures { result ≡ record_number new_layout block events buffer offset }
+// What refuses a recording, by the lengths of the block, the list of events and the buffer. The room is found by subtraction: a sum
+// with the offset could wrap.
+fn judge(block: usize, events: usize, buffer: usize, offset: usize) -> Result<(), Refusal>
+    ensures { number_of result ≡ record_number new_layout block events buffer offset }
 {
     if block != BLOCK_SIZE {
-        return number::BAD_SIZE;
+        return Err(Refusal::BadSize);
     }
     if (layout::MOST_STEPS as usize) < events {
-        return number::BAD_COUNT;
+        return Err(Refusal::BadCount);
     }
     if buffer < offset {
-        return number::NO_ROOM;
+        return Err(Refusal::NoRoom);
     }
     if buffer - offset < trace_size(events) {
-        return number::NO_ROOM;
+        return Err(Refusal::NoRoom);
     }
-    number::DONE
+    Ok(())
 }
 
 // ---- the writers, each on a part that begins with its record, a Step's with the block before it
@@ -84,18 +91,6 @@ fn put_start(part: &mut [u8], count: u32, block: &[u8])
     copy(block, &mut part[layout::START_BLOCK..]);
 }
 
-// The block in front, copied to where the block after goes.
-fn copy_block(part: &mut [u8])
-    requires { new_layout.size + step_size new_layout ≤ length part.old }
-    ensures { part.new ≡ written_at part.old (new_layout.size + block_after_at) (take new_layout.size part.old) }
-{
-    let mut i: usize = 0;
-    while i < BLOCK_SIZE {
-        part[AFTER + i] = part[i];
-        i += 1;
-    }
-}
-
 // What a Step says before its answer: its head and its event.
 fn put_event(part: &mut [u8], e: Event)
     requires { number_at ≤ length part.old }
@@ -107,7 +102,17 @@ fn put_event(part: &mut [u8], e: Event)
     put_word(part, B, e.b);
 }
 
-// The event is put before it is stepped: so the compiler need not keep its words through the step.
+// The block in front, copied to where the block after goes. In two parts: the compiler makes moves of each, and a call of a longer one.
+fn copy_block(part: &mut [u8])
+    requires { new_layout.size + step_size new_layout ≤ length part.old }
+    ensures { part.new ≡ copy_within part.old 0 new_layout.size (new_layout.size + block_after_at) }
+{
+    part.copy_within(..FRONT, AFTER);
+    part.copy_within(FRONT..BLOCK_SIZE, AFTER + FRONT);
+}
+
+// The block is stepped where the block after goes. The event is put before it is stepped: so the compiler need not keep its words through
+// the step.
 fn put_step(part: &mut [u8], e: Event)
     requires { new_layout.size + step_size new_layout ≤ length part.old }
     ensures { part.new ≡ written_at part.old new_layout.size
@@ -115,15 +120,14 @@ fn put_step(part: &mut [u8], e: Event)
 {
     copy_block(part);
     put_event(&mut part[BLOCK_SIZE..], e);
-    let mut answer = [0u8; ANSWER_SIZE];
-    replay(
-        &mut part[AFTER..AFTER_END],
-        direct_code(e.code, e.a),
-        e.a,
-        e.b,
-        &mut answer,
-    );
-    copy(&answer, &mut part[ANSWER..]);
+    let seen = Event {
+        code: direct_code(e.code, e.a),
+        a: e.a,
+        b: e.b,
+    };
+    let answer = step_event(&mut part[AFTER..AFTER_END], seen);
+    put_word(part, NUMBER, answer.number);
+    put_word(part, VALUE, answer.value);
 }
 
 fn put_end(part: &mut [u8], count: u32)
@@ -137,16 +141,14 @@ fn put_end(part: &mut [u8], count: u32)
 // ---- the records, each from a place of the buffer on
 
 // The checks, and where they are passed the Start, from the offset on.
-pub fn begin(block: &[u8], events: usize, buffer: &mut [u8], offset: usize) -> u32
-    ensures number { result ≡ record_number new_layout (length block.now) events (length buffer.old) offset }
+pub fn begin(block: &[u8], events: usize, buffer: &mut [u8], offset: usize) -> Result<(), Refusal>
+    ensures number { number_of result ≡ record_number new_layout (length block.now) events (length buffer.old) offset }
     ensures buffer { buffer.new
-        ≡ (if result is DONE then written_at buffer.old offset (start_record new_layout events block.now) else buffer.old) }
+        ≡ (if number_of result is DONE then written_at buffer.old offset (start_record new_layout events block.now) else buffer.old) }
 {
-    let number = number_of(block.len(), events, buffer.len(), offset);
-    if number == number::DONE {
-        put_start(&mut buffer[offset..], events as u32, block);
-    }
-    number
+    judge(block.len(), events, buffer.len(), offset)?;
+    put_start(&mut buffer[offset..], events as u32, block);
+    Ok(())
 }
 
 // The Step behind so many others, and behind the block that it goes from.

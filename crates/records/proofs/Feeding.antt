@@ -23,8 +23,7 @@ use Rattle.records.specs.Claims.{start_of}
 use Rattle.records.specs.Session.{AT_START, session, is_over, is_live, holding, refusing, due, due_size, due_kind}
 use Rattle.records.specs.Session.{due_number, due_stage, due_count, due_steps, due_block, advancing, nothing_held}
 use Rattle.records.specs.Session.{faulty, unless_faulty, advanced, judged, looked, grown, fed_byte, fed}
-use Rattle.records.specs.declared.run.Run.{Run}
-use Rattle.records.specs.Judged.{Judged, block_after, number_behind, Went}
+use Rattle.records.specs.Judged.{Run, Judged, block_after, number_behind, Went}
 use Rattle.records.specs.Fed.{Due, Takes, concluded}
 use Rattle.records.proofs.Faults.{differ, zero_or_not, else_first, below, head_right, head_bad}
 use Rattle.records.proofs.Own.{start_own, step_own, event_own, end_own, bad_own}

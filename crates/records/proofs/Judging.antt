@@ -1,6 +1,6 @@
 -- What the code's tests say in the terms of the definitions: one word is both halves of a head, and a Step under a right
 -- head is the one that the rules give exactly where its number, its value and its block are.
-use mathlib.Core.Path.{◌≡◌, refl, sym, ap, ◌∙◌, subst}
+use mathlib.Core.Path.{◌≡◌, refl, sym, ap, ◌∙◌}
 use mathlib.Core.Bool.{Bool, true, false}
 use mathlib.Core.List.{List, ◌++◌, append-nil}
 use mathlib.Core.Logic.{◌⊎◌, inl, inr, ◌↔◌}
@@ -15,14 +15,13 @@ use Rattle.words.specs.Word.{half, spelt, Bytes}
 use Rattle.words.proofs.Spell.{two_halves, as_word}
 use Rattle.rules.specs.declared.event.Event.{Event}
 use Rattle.rules.specs.declared.verdict.Answer.{Answer}
-use Rattle.records.specs.declared.run.Run.{Run}
 use Rattle.records.specs.Layout.{Layout, Lawful, start_size, step_size, end_size, most_steps, place_of, block_after_at}
 use Rattle.records.specs.Layout.{head_size, length_at, kind_at, count_at, start_block_at, code_at, a_at, b_at}
 use Rattle.records.specs.Published.{IsAnswer, step_showing, step_record}
-use Rattle.records.specs.Report.{◌else◌, head_number, start_number, step_number, end_number, end_report, report_from, report}
+use Rattle.records.specs.Report.{head_number, start_number, step_number, end_number, end_report, report_from, report}
 use Rattle.records.specs.Report.{event_of, refused, BAD_RECORD, BAD_COUNT, WRONG_STEP, TRAILING}
-use Rattle.records.specs.Judged.{Shows, Judged, block_after, number_behind, Went}
-use Rattle.records.proofs.Faults.{differ, below, else_first, else_zero, unless_zero, same_yes, same_no, head_bad, head_whole}
+use Rattle.records.specs.Judged.{Run, Shows, Judged, block_after, number_behind, Went}
+use Rattle.records.proofs.Faults.{differ, below, else_zero, unless_zero, same_yes, same_no, head_bad, head_whole}
 use Rattle.records.proofs.Faults.{refused_on, refused_at}
 use Rattle.records.proofs.Records.{answer_of, answer_fits, step_shows, shown_answer, shown_block}
 
@@ -37,11 +36,6 @@ module _ (len kind : ℕ) (r : List ℕ) (by : Bytes r) (small : len < 2 ^ 16) w
   pub word_right : spelt r length_at ≡ len + 65536 * kind → (half r length_at ≡ len) × (half r kind_at ≡ kind)
   word_right e = two_halves r len kind by small e
 
--- a fault of the head is the record's
-pub fault_first : (len kind : ℕ) (r : List ℕ) (h m : ℕ) → h ≡ head_number len kind r → (h ≡ 0 → ⊥)
-    → h ≡ (head_number len kind r else m)
-fault_first len kind r h m e n = e ∙ sym (else_first (head_number len kind r) m (λ z. n (e ∙ z)))
-
 -- ---- a Step
 
 -- what is shown is shown under any of its names
@@ -54,12 +48,6 @@ shows_same L r x y c d p q s =
     }
 
 module _ (L : Layout) (LL : Lawful L) (r b : List ℕ) where
-  pub judged_head : (h : ℕ) (c : List ℕ) → h ≡ head_number (step_size L) L.step_kind r → (h ≡ 0 → ⊥)
-      → Judged L r b h c
-  unfolding step_number
-  judged_head h c e n =
-      record { number = fault_first (step_size L) L.step_kind r h _ e n; block = λ z. absurd (n z) }
-
   module _ (size : length b ≡ L.size) (by : Bytes r) (bb : Bytes b)
       (z : head_number (step_size L) L.step_kind r ≡ 0) (c : List ℕ) where
     rules_fit : IsAnswer (L.answer b (event_of r))
@@ -245,23 +233,6 @@ module _ (L : Layout) (LL : Lawful L) (r : List ℕ) (count : ℕ) (b c : List �
         all = λ e. absurd (z e);
         wrong = λ _. (l, behind);
       }
-
-pub reached_all : (L : Layout) (r : List ℕ) (count : ℕ) (b c : List ℕ) (k at : ℕ) → Reached L r count b c k at → count ≤ k
-    → Went L r count b (record { right = k; fault = 0 }) c
-reached_all L r count b c k at here l =
-    record {
-      few = here.few;
-      inside = omega (arith, here.inside, here.place);
-      right = here.right;
-      all = λ _. (omega (arith, here.few), here.block);
-      wrong = λ z. absurd (z refl);
-    }
-
--- the same of equal blocks
-pub went_same : (L : Layout) (r : List ℕ) (n : ℕ) (b d : List ℕ) (v : Run) (c e : List ℕ) → b ≡ d → c ≡ e → Went L r n b v c
-    → Went L r n d v e
-went_same L r n b d v c e p q w =
-    subst (λ (x : List ℕ). Went L r n d v x) q (subst (λ (x : List ℕ). Went L r n x v c) p w)
 
 -- ---- what the Steps say of the report
 

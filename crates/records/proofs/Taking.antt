@@ -20,8 +20,7 @@ use Rattle.records.specs.Report.{unless, ◌else◌, head_number, event_of, SHOR
 use Rattle.records.specs.Session.{AT_START, OVER, session, is_live, is_over, holding, due_size, due_kind}
 use Rattle.records.specs.Session.{due_number, advancing, nothing_held}
 use Rattle.records.specs.Session.{faulty, unless_faulty, advanced, judged, looked, grown, fed}
-use Rattle.records.specs.declared.run.Run.{Run}
-use Rattle.records.specs.Judged.{Judged, block_after, number_behind, Went}
+use Rattle.records.specs.Judged.{Run, Judged, block_after, number_behind, Went}
 use Rattle.records.specs.Fed.{Taken, Takes, head_seen, ended, seen_from, stepped, concluded}
 use Rattle.records.proofs.Faults.{zero_or_not, below}
 use Rattle.records.proofs.Feeding.{count_stays, due_start, due_step, due_end, due_of_step, either, due_least, due_most}

@@ -4,7 +4,8 @@ use Rattle.std.specs.Prelude.{◌≡◌, Bool, true, false, List, ℕ, zero, suc
 use Rattle.words.specs.Word.{spelt}
 use Rattle.state.specs.Place.{BLOCK_SIZE, OLD_BLOCK_SIZE}
 use Rattle.rules.specs.declared.verdict.Answer.{Answer}
-use Rattle.records.specs.declared.run.Run.{Run}
+use Rattle.records.specs.declared.run.Run as code
+use Rattle.state.specs.Refusal.{number_of}
 use Rattle.records.specs.Layout.{Layout, with_hdcr0, layout, step_size, number_at, value_at, block_after_at}
 use Rattle.records.specs.Report.{ACCEPTED, step_number, event_of}
 
@@ -40,6 +41,15 @@ pub record Judged (L : Layout) (r b : List ℕ) (n : ℕ) (c : List ℕ) : Type 
 pub record JudgedWide (old : Bool) (r b : List ℕ) (n : ℕ) (c : List ℕ) : Type 0 where
   pub judged : Judged (layout old) r (narrow old b) n (narrow old c)
   pub still : n ≡ ACCEPTED → IsWide old c
+
+-- how many Steps are right, and the number of the next one's fault
+pub record Run : Type 0 where
+  pub right : ℕ
+  pub fault : ℕ
+
+-- the code's, in numbers
+abbrev pub in_numbers : code.Run → Run
+in_numbers v = record { right = v.right; fault = number_of v.outcome }
 
 module _ (L : Layout) where
   -- the block after k Steps from the front of r on, b being the block before them

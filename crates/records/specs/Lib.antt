@@ -1,4 +1,5 @@
 pub mod Layout
+pub mod Which
 pub mod Published
 pub mod Report
 pub mod Judged

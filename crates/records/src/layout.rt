@@ -1,8 +1,13 @@
 // The layouts of a trace (document 01, "The trace"; document 02, No. 11): what their records' sizes and kinds are, and where the
 // parts of a record begin.
-ghost use Rattle.std.specs.Prelude.{◌≡◌, ◌+◌, ◌*◌, ◌≤◌};
-ghost use Rattle.records.specs.Layout.{layout, start_size, step_size, end_size, place_of, most_steps, is_old};
+ghost use Rattle.std.specs.Prelude.{◌≡◌, ◌*◌, ◌≤◌, length};
+ghost use Rattle.records.specs.Layout.{start_size, step_size, place_of, most_steps, block_after_at, is_old};
+ghost use Rattle.records.specs.Report.{event_of};
+ghost use Rattle.records.specs.Which.{old, its};
+ghost use Rattle.rules.specs.Known.{SeenCode, seen};
 
+use rules::event::Event;
+use rules::known::{direct_code, old_code};
 use state::place;
 use words::word_at;
 
@@ -53,69 +58,109 @@ pub const VALUE: usize = 20;
 
 pub const BLOCK_AFTER: usize = 24;
 
-// Whether a string has the old layout, by the kind of its Start; what has no head of the new one is old.
-pub fn is_old(trace: &[u8]) -> bool
-    ensures { result ≡ is_old trace.now }
-{
-    if trace.len() < HEAD_SIZE {
-        return true;
+// Which layout a trace has.
+#[derive(Clone, Copy, Debug, PartialEq, Eq)]
+pub enum Layout {
+    Old,
+    New,
+}
+
+impl Layout {
+    // That of a string, by the kind of its Start; what has no head of the new one is old.
+    pub fn of(trace: &[u8]) -> Layout
+        ensures { old result ≡ is_old trace.now }
+    {
+        if trace.len() < HEAD_SIZE {
+            return Layout::Old;
+        }
+        if word_at(trace, 0) / 65536 == START_KIND {
+            return Layout::New;
+        }
+        Layout::Old
     }
-    word_at(trace, 0) / 65536 != START_KIND
-}
 
-// Each size and kind, by whether the layout is the old one.
-pub fn block_size(old: bool) -> usize
-    ensures { result ≡ (layout old).size }
-{
-    if old {
-        place::OLD_BLOCK_SIZE
-    } else {
-        place::BLOCK_SIZE
+    // The sizes of its blocks and records, and their kinds.
+    pub fn block_size(self) -> usize
+        ensures { result ≡ (its self).size }
+    {
+        match self {
+            Layout::Old => place::OLD_BLOCK_SIZE,
+            Layout::New => place::BLOCK_SIZE,
+        }
     }
-}
 
-pub fn start_size(old: bool) -> u32
-    ensures { result ≡ start_size (layout old) }
-{
-    if old { OLD_START_SIZE } else { START_SIZE }
-}
-
-pub fn start_kind(old: bool) -> u32
-    ensures { result ≡ (layout old).start_kind }
-{
-    if old { OLD_START_KIND } else { START_KIND }
-}
-
-pub fn step_size(old: bool) -> u32
-    ensures { result ≡ step_size (layout old) }
-{
-    if old { OLD_STEP_SIZE } else { STEP_SIZE }
-}
-
-pub fn step_kind(old: bool) -> u32
-    ensures { result ≡ (layout old).step_kind }
-{
-    if old { OLD_STEP_KIND } else { STEP_KIND }
-}
-
-// The bytes of so many Steps.
-pub fn steps_size(old: bool, steps: u32) -> u32
-    requires { steps ≤ most_steps }
-    ensures { result ≡ step_size (layout old) * steps }
-{
-    if old {
-        return OLD_STEP_SIZE * steps;
+    pub fn start_size(self) -> u32
+        ensures { result ≡ start_size (its self) }
+    {
+        match self {
+            Layout::Old => OLD_START_SIZE,
+            Layout::New => START_SIZE,
+        }
     }
-    STEP_SIZE * steps
-}
 
-// Where the record after a Start and so many Steps begins.
-pub fn place_of(old: bool, steps: u32) -> u32
-    requires { steps ≤ most_steps }
-    ensures { result ≡ place_of (layout old) steps }
-{
-    if old {
-        return OLD_START_SIZE + OLD_STEP_SIZE * steps;
+    pub fn start_kind(self) -> u32
+        ensures { result ≡ (its self).start_kind }
+    {
+        match self {
+            Layout::Old => OLD_START_KIND,
+            Layout::New => START_KIND,
+        }
     }
-    START_SIZE + STEP_SIZE * steps
+
+    pub fn step_size(self) -> u32
+        ensures { result ≡ step_size (its self) }
+    {
+        match self {
+            Layout::Old => OLD_STEP_SIZE,
+            Layout::New => STEP_SIZE,
+        }
+    }
+
+    pub fn step_kind(self) -> u32
+        ensures { result ≡ (its self).step_kind }
+    {
+        match self {
+            Layout::Old => OLD_STEP_KIND,
+            Layout::New => STEP_KIND,
+        }
+    }
+
+    // The bytes of so many Steps.
+    pub fn steps_size(self, steps: u32) -> u32
+        requires { steps ≤ most_steps }
+        ensures { result ≡ step_size (its self) * steps }
+    {
+        self.step_size() * steps
+    }
+
+    // Where the record after a Start and so many Steps begins.
+    pub fn place_of(self, steps: u32) -> u32
+        requires { steps ≤ most_steps }
+        ensures { result ≡ place_of (its self) steps }
+    {
+        self.start_size() + self.steps_size(steps)
+    }
+
+    // The code of an event as the layout sees it: one that it does not know is none.
+    pub fn seen_code(self, code: u32, a: u32) -> u32
+        ensures { SeenCode (old self) code a result }
+    {
+        match self {
+            Layout::Old => old_code(code, a),
+            Layout::New => direct_code(code, a),
+        }
+    }
+
+    // The event that a Step names, as the layout sees it.
+    pub fn event_of(self, r: &[u8]) -> Event
+        requires { block_after_at ≤ length r.now }
+        ensures { result ≡ seen (old self) (event_of r.now) }
+    {
+        let a = word_at(r, A);
+        Event {
+            code: self.seen_code(word_at(r, CODE), a),
+            a,
+            b: word_at(r, B),
+        }
+    }
 }

@@ -18,7 +18,7 @@ pub const OVER: u32 = 3;
 // The numbers of a session: its stage, n and Steps; the place of the record due, and how many bytes of it are held; the fault
 // that is known, or 0; and whether it is closed.
 #[repr(C)]
-#[derive(Clone, Copy)]
+#[derive(Clone, Copy, Debug, PartialEq, Eq)]
 pub struct Progress {
     pub stage: u32,
     pub count: u32,

@@ -1,14 +1,22 @@
 -- A set of modes says what the list of illegal returns says, where it does so at each of the 32 numbers that a saved word can
 -- name, and at each mode that a return can come from.
-use Rattle.std.proofs.Common.{◌≡◌, ℕ, ◌+◌, ◌^◌, ◌≤◌, Bool, true, false, not, ◌&&◌, arith, if◌then◌else◌}
-use Rattle.state.specs.Choice.{◌is◌}
-use Rattle.state.specs.Mode.{MONITOR, HYP, targets, is_target}
+use Rattle.std.proofs.Common.{◌≡◌, ℕ, ◌+◌, ◌^◌, ◌<◌, ◌≤◌, Bool, true, false, not, ◌&&◌, refl, arith, if◌then◌else◌}
+use Rattle.state.specs.Choice.{◌is◌, ◌among◌}
+use Rattle.state.specs.Mode.{MONITOR, HYP, known, el1, targets, is_target}
+use Rattle.state.specs.declared.mode.TheConstants.{UNKNOWN, UNKNOWN_OR_EL1, UNKNOWN_OR_HYP}
 use Rattle.state.specs.Parts.{in_set}
+use Rattle.state.proofs.Sets.{in_set_lem}
 use Rattle.state.proofs.Test.{same, same_eq, every_bit, at_bit, every_below, at_below, every_of, at_one}
 use Rattle.returns.specs.Illegal.{illegal}
 use Rattle.returns.specs.Level.{EL3, level}
 use Rattle.returns.specs.Parts.{above_set, IllegalModes}
+use Rattle.returns.specs.Return.{taken_off}
+use Rattle.returns.specs.declared.TheConstants.{TAKEN_OFF}
 use Rattle.returns.proofs.Levels.{at_el3}
+
+-- what may be taken off the link, looked up by a shift, is its list
+pub taken_off_says : (a : ℕ) → a < 32 → in_set TAKEN_OFF a ≡ (a among taken_off)
+taken_off_says a l = in_set_lem TAKEN_OFF taken_off refl a l
 
 abbrev pub agrees : ℕ → ℕ → Bool → Bool → Bool
 agrees set current ns tge = every_below 32 (λ m. same (in_set set m) (illegal current m ns tge))
@@ -42,3 +50,19 @@ non_secure_set base m {tge} e f t all =
     rw (e, f)
     (agreed (base + above_set m) (level m true) true tge
     (at_one targets (λ m. agrees (base + above_set m) (level m true) true tge) all m t))
+
+-- the code's three sets, each by the bits that it is taken at
+pub with_ns_0 : (m : ℕ) {ns : Bool} (tge : Bool) → ns ≡ false → is_target m ≡ true → (m is HYP && not ns) ≡ false
+    → IllegalModes (level m ns) ns tge UNKNOWN_OR_HYP
+unfolding known el1 illegal level
+with_ns_0 m tge e t h = secure_set UNKNOWN_OR_HYP m tge e t h refl
+
+pub with_tge : (m : ℕ) {ns tge : Bool} {above : ℕ} → ns ≡ true → tge ≡ true → is_target m ≡ true → above ≡ above_set m
+    → IllegalModes (level m ns) ns tge (UNKNOWN_OR_EL1 + above)
+unfolding known el1 illegal level
+with_tge m e f t a = rw a (non_secure_set UNKNOWN_OR_EL1 m e f t refl)
+
+pub without_tge : (m : ℕ) {ns tge : Bool} {above : ℕ} → ns ≡ true → tge ≡ false → is_target m ≡ true → above ≡ above_set m
+    → IllegalModes (level m ns) ns tge (UNKNOWN + above)
+unfolding known el1 illegal level
+without_tge m e f t a = rw a (non_secure_set UNKNOWN m e f t refl)

@@ -3,4 +3,4 @@ pub mod Rows
 pub mod Sound
 pub mod Carrying
 pub mod Deciding
-pub mod Knowing
+pub mod Operands

@@ -1,5 +1,5 @@
 -- What a step that no row refuses comes to can be carried out: its places lie in the block, its target has a saved state.
-use Rattle.std.specs.Prelude.{if◌then◌else◌}
+use Rattle.std.specs.Prelude.{Option, None, Some, if◌then◌else◌}
 use mathlib.Core.Path.{◌≡◌, refl}
 use mathlib.Core.Bool.{Bool, true, false, not, ◌||◌}
 use mathlib.Core.List.{List}
@@ -24,8 +24,6 @@ use Rattle.interrupts.specs.Kind.{Kind, serror, fiq, irq}
 use Rattle.interrupts.specs.declared.exception.Exception.{Exception}
 use Rattle.interrupts.specs.declared.exception.Exception.TheVariants.{Synchronous, SError, Fiq, Irq}
 use Rattle.interrupts.specs.declared.exception.Exception.TheVariants.{VirtualSError, VirtualFiq, VirtualIrq}
-use Rattle.interrupts.specs.declared.check.Found.{Found}
-use Rattle.interrupts.specs.declared.check.Found.TheVariants.{Nothing, First}
 use Rattle.interrupts.proofs.Targets as interrupts
 use Rattle.banked.specs.Cell.{cell}
 use Rattle.banked.proofs.Cells.{cell_inside}
@@ -79,9 +77,9 @@ interrupt_sound VirtualSError cpsr scr hcr pc = virtual_sound serror pc
 interrupt_sound VirtualFiq cpsr scr hcr pc = virtual_sound fiq pc
 interrupt_sound VirtualIrq cpsr scr hcr pc = virtual_sound irq pc
 
-checked_sound : (lines cpsr scr hcr pc : ℕ) (f : Found) → Sound (checked lines cpsr scr hcr pc f)
-checked_sound lines cpsr scr hcr pc Nothing = tt
-checked_sound lines cpsr scr hcr pc (First x) =
+checked_sound : (lines cpsr scr hcr pc : ℕ) (f : Option Exception) → Sound (checked lines cpsr scr hcr pc f)
+checked_sound lines cpsr scr hcr pc None = tt
+checked_sound lines cpsr scr hcr pc (Some x) =
     taken_sound x (interrupt.way x cpsr scr hcr pc) (interrupt_sound x cpsr scr hcr pc)
 
 -- the operands of a well formed event

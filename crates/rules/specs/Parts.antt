@@ -1,29 +1,51 @@
 -- What the code's own parts ask and answer. Nobody has to believe these: they stand between the code and the rules, and the
 -- laws of proofs/ join them to `action`.
-use Rattle.std.specs.Prelude.{◌≡◌, true, List, ℕ, ◌<◌, ◌^◌, length, if◌then◌else◌}
-use Rattle.words.specs.Word.{word}
+use Rattle.std.specs.Prelude.{Result, Ok, Err, ◌≡◌, true, List, ℕ, ◌<◌, ◌^◌, if◌then◌else◌}
 use Rattle.state.specs.Choice.{◌is◌}
 use Rattle.state.specs.Mode.{is_target}
 use Rattle.state.specs.Number.{DONE}
-use Rattle.state.specs.Place.{PLACES, BLOCK_SIZE, CPSR, SCR}
+use Rattle.state.specs.Parts.{ReadFrom}
+use Rattle.state.specs.Place.{PLACES}
+use Rattle.state.specs.Refusal.{number}
+use Rattle.state.specs.declared.refusal.Refusal.{Refusal}
 use Rattle.state.specs.State.{fault}
+use Rattle.state.specs.declared.state.Status.{Status}
 use Rattle.entry.specs.Offset.{PREFETCH_ABORT}
-use Rattle.rules.specs.Step.{ANSWER_SIZE, Action, Refuse, Take, Quiet, Read, Put, Return, answer_to, block_after, answer_bytes}
-use Rattle.rules.specs.Verdict.{Answer, Verdict, Entry, NothingTaken, Register, Written, Returned}
+use Rattle.rules.specs.Step.{Action, Refuse, Take, Quiet, Read, Put, Return, answer_to, block_after, answer_bytes}
+use Rattle.rules.specs.Verdict.{Answer, answer_for, refused_with, Verdict, Entry, NothingTaken, Register, Written, Returned}
 
--- a block and an answer buffer that have their sizes, and two words of the block, read before
-abbrev pub Lent : List ℕ → List ℕ → ℕ → ℕ → Type 0
-Lent b m cpsr scr = (length b ≡ BLOCK_SIZE) × (length m ≡ ANSWER_SIZE) × (cpsr ≡ word b CPSR) × (scr ≡ word b SCR)
+-- a good block, and CPSR and SCR as they were read from it
+abbrev pub Ready : List ℕ → Status → Type 0
+Ready b status = ReadFrom b status × (fault b ≡ DONE)
 
--- the same, and the block is good
-abbrev pub Ready : List ℕ → List ℕ → ℕ → ℕ → Type 0
-Ready b m cpsr scr = Lent b m cpsr scr × (fault b ≡ DONE)
+-- the answer to what came of an event
+abbrev pub answer_of : Result Verdict Refusal → Answer
+answer_of (Ok v) = answer_for v
+answer_of (Err r) = refused_with (number r)
+
+-- what telling a verdict asks of it: its value fits a word
+abbrev pub Small : Verdict → Type 0
+Small (Entry x mode offset) = (mode.number < 32) × (offset < 32)
+Small (NothingTaken lines) = Unit {0}
+Small (Register w) = Unit {0}
+Small (Written w) = Unit {0}
+Small (Returned pc) = Unit {0}
+
+abbrev pub SmallOutcome : Result Verdict Refusal → Type 0
+SmallOutcome (Ok v) = Small v
+SmallOutcome (Err r) = Unit {0}
+
+-- an action carried out, in the code's words: the block that it leaves, and what came of it, of which the answer is told
+pub record CameTo (b : List ℕ) (x : Action) (o : Result Verdict Refusal) (l : List ℕ) : Type 0 where
+  pub block : l ≡ block_after b x
+  pub answer : answer_of o ≡ answer_to b x
+  pub small : SmallOutcome o
 
 -- an answer told: its number is returned and its bytes fill the buffer; its value is a word
 abbrev pub Told : Answer → ℕ → List ℕ → Type 0
 Told x n m = (n ≡ x.number) × (m ≡ answer_bytes x) × (x.value < 2 ^ 32)
 
--- an action carried out: the block that it leaves, and its answer told
+-- an action carried out over an answer buffer: the block that it leaves, and its answer told
 abbrev pub Carried : List ℕ → Action → ℕ → List ℕ → List ℕ → Type 0
 Carried b x n l m = (l ≡ block_after b x) × Told (answer_to b x) n m
 
@@ -44,11 +66,3 @@ Sound (Quiet lines) = Unit {0}
 Sound (Read p) = p < PLACES
 Sound (Put p w) = p < PLACES
 Sound (Return cpsr pc) = Unit {0}
-
--- the same of a verdict
-abbrev pub Small : Verdict → Type 0
-Small (Entry x mode offset) = (mode.number < 32) × (offset < 32)
-Small (NothingTaken lines) = Unit {0}
-Small (Register w) = Unit {0}
-Small (Written w) = Unit {0}
-Small (Returned pc) = Unit {0}

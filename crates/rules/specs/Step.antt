@@ -1,5 +1,5 @@
 -- One step: what an event comes to on a block, what is answered, and the block after it.
-use Rattle.std.specs.Prelude.{Bool, ◌&&◌, List, ◌++◌, ℕ, length, if◌then◌else◌}
+use Rattle.std.specs.Prelude.{Option, None, Some, Bool, ◌&&◌, List, ◌++◌, ℕ, length, if◌then◌else◌}
 use Rattle.words.specs.Word.{le32, word, put}
 use Rattle.state.specs.Choice.{◌is◌}
 use Rattle.state.specs.Field.{without}
@@ -12,8 +12,6 @@ use Rattle.interrupts.specs.Check as interrupt
 use Rattle.interrupts.specs.declared.exception.Exception.{Exception}
 use Rattle.interrupts.specs.declared.exception.Exception.TheVariants.{Synchronous, SError, Fiq, Irq}
 use Rattle.interrupts.specs.declared.exception.Exception.TheVariants.{VirtualSError, VirtualFiq, VirtualIrq}
-use Rattle.interrupts.specs.declared.check.Found.{Found}
-use Rattle.interrupts.specs.declared.check.Found.TheVariants.{Nothing, First}
 use Rattle.banked.specs.Cell.{cell}
 use Rattle.returns.specs.Return.{cpsr_returned, pc_returned}
 use Rattle.rules.specs.Event.{Event, INTERRUPT_CHECK, BANKED_READ, BANKED_WRITE, NOTE, RETURN}
@@ -31,9 +29,9 @@ taken_by x (Barred n) = Refuse n
 taken_by x (Enter to offset link) = Take x to offset link
 
 -- an interrupt check of these lines, by what it finds
-abbrev pub checked : ℕ → ℕ → ℕ → ℕ → ℕ → Found → Action
-checked lines cpsr scr hcr pc Nothing = Quiet lines
-checked lines cpsr scr hcr pc (First x) = taken_by x (interrupt.way x cpsr scr hcr pc)
+abbrev pub checked : ℕ → ℕ → ℕ → ℕ → ℕ → Option Exception → Action
+checked lines cpsr scr hcr pc None = Quiet lines
+checked lines cpsr scr hcr pc (Some x) = taken_by x (interrupt.way x cpsr scr hcr pc)
 
 -- by the words of a block: the A that an event is routed by, where an event or an interrupt goes, what a check of these lines finds,
 -- and what it comes to
@@ -46,10 +44,10 @@ event_way b code a = synchronous.way code (routed_in b code a) (word b CPSR) (wo
 abbrev pub interrupt_way : List ℕ → Exception → Way
 interrupt_way b x = interrupt.way x (word b CPSR) (word b SCR) (word b HCR) (word b PC)
 
-abbrev pub found_in : List ℕ → ℕ → Found
+abbrev pub found_in : List ℕ → ℕ → Option Exception
 found_in b lines = interrupt.found lines (word b CPSR) (word b SCR) (word b HCR)
 
-abbrev pub checked_in : List ℕ → ℕ → Found → Action
+abbrev pub checked_in : List ℕ → ℕ → Option Exception → Action
 checked_in b lines = checked lines (word b CPSR) (word b SCR) (word b HCR) (word b PC)
 
 -- a return that takes A off its address

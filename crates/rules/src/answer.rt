@@ -1,14 +1,15 @@
-// The answer to a step (document 01, "Answer numbers"), in a buffer that has its size. What a done step answers is a verdict:
-// `answer_for` makes number and value of it. Beside that only a refusal is told.
-ghost use Rattle.std.specs.Prelude.{◌≡◌, length};
-ghost use Rattle.rules.specs.Parts.{Small, Told};
-ghost use Rattle.rules.specs.Step.{ANSWER_SIZE};
-ghost use Rattle.rules.specs.Verdict.{value, answer_for, refused_with};
+// The answer to a step (document 01, "Answer numbers"): of a done one its verdict, as number and value; of any other its refusal.
+ghost use Rattle.std.specs.Prelude.{◌≡◌};
+ghost use Rattle.rules.specs.Parts.{Small, SmallOutcome, answer_of, Told};
+ghost use Rattle.rules.specs.Verdict.{value};
 
 use crate::verdict::{Answer, Verdict};
 use interrupts::exception::which_of;
-use state::number;
+use state::refusal::{DONE, Refusal};
 use words::put_word;
+
+// The bytes of an answer buffer.
+pub const ANSWER_SIZE: usize = 8;
 
 // The places of the two words of an answer.
 pub const NUMBER: usize = 0;
@@ -16,6 +17,7 @@ pub const NUMBER: usize = 0;
 pub const VALUE: usize = 1;
 
 // The value that tells a verdict.
+#[tactic(auto, unfolding(crate::specs::Verdict::value))]
 fn value_of(v: Verdict) -> u32
     requires { Small v }
     ensures { result ≡ value v }
@@ -26,52 +28,42 @@ fn value_of(v: Verdict) -> u32
             mode,
             offset,
         } => which_of(which) * 65536 + mode.number * 256 + offset,
-        Verdict::NothingTaken(_) => 0,
         Verdict::Register(w) => w,
-        Verdict::Written(_) => 0,
-        Verdict::Returned(_) => 0,
+        Verdict::NothingTaken(_) | Verdict::Written(_) | Verdict::Returned(_) => 0,
     }
 }
 
-// The number and the value of a verdict.
-fn answer_for(v: Verdict) -> Answer
-    requires { Small v }
-    ensures { result ≡ answer_for v }
+// The number and the value of what came of an event.
+pub fn answer_of(outcome: Result<Verdict, Refusal>) -> Answer
+    requires { SmallOutcome outcome }
+    ensures { result ≡ answer_of outcome }
 {
-    Answer {
-        number: number::DONE,
-        value: value_of(v),
-    }
-}
-
-// Number and value, four bytes each; the number is returned too.
-fn tell(buffer: &mut [u8], x: Answer) -> u32
-    requires { length buffer.old ≡ ANSWER_SIZE }
-    ensures { Told x result buffer.new }
-{
-    put_word(buffer, NUMBER, x.number);
-    put_word(buffer, VALUE, x.value);
-    x.number
-}
-
-// A refused step: its number, and the value 0.
-pub fn refuse(buffer: &mut [u8], n: u32) -> u32
-    requires { length buffer.old ≡ ANSWER_SIZE }
-    ensures { Told (refused_with n) result buffer.new }
-{
-    tell(
-        buffer,
-        Answer {
-            number: n,
+    match outcome {
+        Ok(verdict) => Answer {
+            number: DONE,
+            value: value_of(verdict),
+        },
+        Err(refusal) => Answer {
+            number: refusal.number(),
             value: 0,
         },
-    )
+    }
 }
 
-// A done one: its verdict.
-pub fn done(buffer: &mut [u8], v: Verdict) -> u32
-    requires { (length buffer.old ≡ ANSWER_SIZE) × Small v }
-    ensures { Told (answer_for v) result buffer.new }
+// An answer in its buffer, number and value, four bytes each; the number is returned too.
+#[tactic(auto, using(crate::proofs::Buffer::two_words))]
+pub fn put_answer(buffer: &mut [u8; ANSWER_SIZE], answer: Answer) -> u32
+    ensures { Told answer result buffer.new }
 {
-    tell(buffer, answer_for(v))
+    put_word(buffer, NUMBER, answer.number);
+    put_word(buffer, VALUE, answer.value);
+    answer.number
+}
+
+// The same of what came of an event.
+pub fn tell(buffer: &mut [u8; ANSWER_SIZE], outcome: Result<Verdict, Refusal>) -> u32
+    requires { SmallOutcome outcome }
+    ensures { Told (answer_of outcome) result buffer.new }
+{
+    put_answer(buffer, answer_of(outcome))
 }

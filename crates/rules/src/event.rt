@@ -1,13 +1,20 @@
 // An event, and when it is well formed (document 01, "Events").
-ghost use Rattle.std.specs.Prelude.{◌≡◌, not, ◌||◌, leb};
+ghost use Rattle.std.specs.Prelude.{◌≡◌, ◌&&◌, ltb};
 ghost use Rattle.state.specs.Choice.{◌is◌};
 
 use state::place;
 
 #[repr(C)]
-#[derive(Clone, Copy)]
+#[derive(Clone, Copy, Debug, PartialEq, Eq)]
 pub struct Event {
     pub code: u32,
+    pub a: u32,
+    pub b: u32,
+}
+
+// What an event brings besides its code.
+#[derive(Clone, Copy, Debug, PartialEq, Eq)]
+pub struct Operands {
     pub a: u32,
     pub b: u32,
 }
@@ -26,9 +33,11 @@ pub const CELL_VALUES: u32 = 64;
 
 pub const PLACE_VALUES: u32 = place::PLACES as u32;
 
-// BAD_EVENT by the operands: A is not below its bound, or B, where it must be, is not 0.
-pub fn beyond(a: u32, bound: u32, b: u32) -> bool
-    ensures { result ≡ (leb bound a || not (b is 0)) }
-{
-    if a < bound { b != 0 } else { true }
+impl Operands {
+    // Are they well formed where B must be 0: is A below its bound, and B 0?
+    pub fn are_within(self, bound: u32) -> bool
+        ensures { result ≡ (ltb self.a bound && self.b is 0) }
+    {
+        self.a < bound && self.b == 0
+    }
 }

@@ -1,5 +1,5 @@
 // What a layout of a trace knows of the events, and a direct step with it (document 02, Nos. 11 and 13).
-ghost use Rattle.std.specs.Prelude.{false};
+ghost use Rattle.std.specs.Prelude.{true, false};
 ghost use Rattle.rules.specs.Known.{SeenCode};
 
 use entry::code::{INTERRUPT_CHECK, NOTE, PREFETCH_ABORT};
@@ -14,13 +14,11 @@ const HDCR_PLACE: u32 = place::HDCR as u32;
 
 const VIRTUAL_LINES: u32 = 8;
 
-// The code of an event as a layout sees it: one that it does not know is none.
-pub fn seen_code(old: bool, code: u32, a: u32) -> u32
-    ensures { SeenCode old code a result }
+// The code of an event as the old layout sees it: one that it does not know is none.
+#[tactic(auto, unfolding(crate::specs::Known::seen))]
+pub fn old_code(code: u32, a: u32) -> u32
+    ensures { SeenCode true code a result }
 {
-    if !old {
-        return direct_code(code, a);
-    }
     if code == PREFETCH_ABORT {
         if a == DEBUG {
             return NO_CODE;
@@ -36,6 +34,7 @@ pub fn seen_code(old: bool, code: u32, a: u32) -> u32
 }
 
 // As a direct step sees it, and the new layout: a check with a virtual line is none. The two lines are the bits from VIRTUAL_LINES on.
+#[tactic(auto, unfolding(crate::specs::Known::seen))]
 pub fn direct_code(code: u32, a: u32) -> u32
     ensures { SeenCode false code a result }
 {

@@ -5,5 +5,6 @@
 pub mod answer;
 pub mod event;
 pub mod known;
+pub mod rule;
 pub mod taking;
 pub mod verdict;

@@ -1,89 +1,40 @@
-// An exception that is taken: the entry and its answer.
-ghost use Rattle.std.specs.Prelude.{◌≡◌, true, ◌<◌, length};
-ghost use Rattle.state.specs.Field.{mode_field};
-ghost use Rattle.state.specs.Mode.{HYP, is_target};
-ghost use Rattle.state.specs.Place.{BLOCK_SIZE};
-ghost use Rattle.entry.specs.Route.{offset_to};
-ghost use Rattle.rules.specs.Parts.{Lent, Carried};
+// An exception that is taken: the entry and its verdict.
+ghost use Rattle.std.specs.Prelude.{◌≡◌, Ok};
+ghost use Rattle.rules.specs.Parts.{CameTo};
 ghost use Rattle.rules.specs.Step.{Take, va_cleared};
+ghost use Rattle.state.specs.Parts.{ReadFrom};
 
-use crate::answer::done;
 use crate::verdict::Verdict;
 use entry::enter::enter;
-use entry::route::hyp_offset;
+use entry::entry::Entry;
 use interrupts::exception::Exception;
-use state::mode::Mode;
 use state::place;
+use state::place::BLOCK_SIZE;
+use state::state::Status;
 use words::{get_word, put_word};
 
 // Taking virtual SError clears HCR.VA.
-fn clear_va(block: &mut [u8], which: Exception)
-    requires { length block.old ≡ BLOCK_SIZE }
+fn clear_va(block: &mut [u8; BLOCK_SIZE], which: Exception)
     ensures { block.new ≡ va_cleared block.old which }
 {
-    match which {
-        Exception::VirtualSError => {
-            let hcr = get_word(block, place::HCR);
-            put_word(block, place::HCR, hcr / 512 * 512 + hcr % 256);
-        }
-        Exception::Synchronous => {}
-        Exception::SError => {}
-        Exception::Fiq => {}
-        Exception::Irq => {}
-        Exception::VirtualFiq => {}
-        Exception::VirtualIrq => {}
+    if which == Exception::VirtualSError {
+        let hcr = get_word(block, place::HCR);
+        put_word(block, place::HCR, hcr / 512 * 512 + hcr % 256);
     }
 }
 
-// Taken to the mode `to`, at an offset, with this return address.
-pub fn take(
-    block: &mut [u8],
-    cpsr: u32,
-    scr: u32,
-    which: Exception,
-    to: u32,
-    offset: u32,
-    link: u32,
-    buffer: &mut [u8],
-) -> u32
-    requires { Lent block.old buffer.old cpsr scr × (is_target to ≡ true) × (offset < 32) }
-    ensures { Carried block.old (Take which to offset link) result block.new buffer.new }
+// The exception taken: the block is entered, and this is its verdict.
+#[inline(always)]
+#[tactic(auto, using(crate::proofs::Carrying::cpsr_stays, crate::proofs::Carrying::scr_stays, crate::proofs::Carrying::taken), unfolding(state::specs::Mode::is_target))]
+pub fn take(block: &mut [u8; BLOCK_SIZE], status: Status, which: Exception, entry: Entry) -> Verdict
+    requires { ReadFrom block.old status }
+    ensures { CameTo block.old (Take which entry.to.number entry.offset entry.link) (Ok result) block.new }
 {
-    let mode = Mode { number: to };
     clear_va(block, which);
-    enter(block, cpsr, scr, mode, offset, link);
-    done(
-        buffer,
-        Verdict::Entry {
-            which: which,
-            mode,
-            offset: offset,
-        },
-    )
-}
-
-// Taken to Hyp, by what is not IRQ or FIQ: the offset is its own from Hyp alone.
-pub fn take_to_hyp(
-    block: &mut [u8],
-    cpsr: u32,
-    scr: u32,
-    which: Exception,
-    own: u32,
-    link: u32,
-    buffer: &mut [u8],
-) -> u32
-    requires { Lent block.old buffer.old cpsr scr × (own < 32) }
-    ensures { Carried block.old (Take which HYP (offset_to HYP (mode_field cpsr) own) link) result block.new buffer.new }
-{
-    let offset = hyp_offset(cpsr, own);
-    take(
-        block,
-        cpsr,
-        scr,
+    enter(block, status, entry.to, entry.offset, entry.link);
+    Verdict::Entry {
         which,
-        Mode::HYP.number,
-        offset,
-        link,
-        buffer,
-    )
+        mode: entry.to,
+        offset: entry.offset,
+    }
 }

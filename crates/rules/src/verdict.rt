@@ -3,13 +3,13 @@ use interrupts::exception::Exception;
 use state::mode::Mode;
 
 #[repr(C)]
-#[derive(Clone, Copy)]
+#[derive(Clone, Copy, Debug, PartialEq, Eq)]
 pub struct Answer {
     pub number: u32,
     pub value: u32,
 }
 
-#[derive(Clone, Copy)]
+#[derive(Clone, Copy, Debug, PartialEq, Eq)]
 pub enum Verdict {
     // An entry: which exception it was, the mode it went to, and the offset.
     Entry {

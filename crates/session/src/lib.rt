@@ -2,13 +2,16 @@
 // any other the bytes are held until it is whole.
 #![tactic(auto)]
 
-ghost use Rattle.std.specs.Prelude.{◌≡◌, ◌+◌, ◌*◌, ◌<◌, ◌≤◌, false, not, ◌&&◌, leb, ◌++◌, length, take, replicate};
-ghost use Rattle.std.specs.Prelude.{nat_le, slice_index, if◌then◌else◌};
+ghost use Rattle.std.specs.Prelude.{◌≡◌, ◌+◌, ◌*◌, ◌<◌, ◌≤◌, false, not, ◌&&◌, ◌++◌, length, take};
+ghost use Rattle.std.specs.Prelude.{slice_index, IfOk, IfErr, IsTrue, ◌↔◌};
 ghost use Rattle.std.proofs.lemmas.List.Edits.{sets};
 ghost use Rattle.state.specs.Choice.{◌is◌};
-ghost use Rattle.records.specs.Layout.{layout, step_size, most_steps, start_block_at, is_old};
+ghost use Rattle.records.specs.Layout.{step_size, most_steps, is_old};
 ghost use Rattle.records.specs.Report.{ACCEPTED as accepted, start_number};
 ghost use Rattle.records.specs.Claims.{start_of};
+ghost use Rattle.records.specs.Judged.{Judged};
+ghost use Rattle.records.specs.Which.{old, its};
+ghost use Rattle.state.specs.Refusal.{number, number_of};
 ghost use Rattle.records.specs.Session.{
   session,
   feed_number,
@@ -21,26 +24,23 @@ ghost use Rattle.records.specs.Session.{
   narrowed,
   widened,
   nothing_held,
+  due,
   due_size,
   due_kind,
   due_count,
   advancing,
   faulty,
-  judged,
   fed,
 };
-ghost use Rattle.records.specs.Fed.{Room, Due, Taken, Takes, head_seen, seen_from, stepped, concluded};
+ghost use Rattle.records.specs.Fed.{Room, Due as Found, Taken, Takes, head_seen, seen_from, stepped, concluded};
 
-use judgements::{ACCEPTED, judge_end, judge_head, judge_start, judge_steps};
+use judgements::{judge_end, judge_head, judge_start, judge_steps};
 use records::layout;
-use records::layout::{
-    block_size, is_old, start_kind, start_size, step_kind, step_size, steps_size,
-};
+use records::layout::Layout;
 use records::report::Report;
 use records::session::{AT_START, NEXT, OLD_NEXT, OVER, Progress, RECORD_SIZE, Session};
-use state::number::{CLOSED, SHORT, TRAILING};
 use state::place::BLOCK_SIZE;
-use std::num::wrapping_add_u32;
+use state::refusal::{DONE, Refusal};
 use words::runs::copy;
 use words::word_at;
 
@@ -58,7 +58,7 @@ pub fn open() -> Session
             steps: 0,
             place: 0,
             held: 0,
-            fault: ACCEPTED,
+            fault: DONE,
             closed: 0,
         },
         block: [0u8; BLOCK_SIZE],
@@ -67,224 +67,202 @@ pub fn open() -> Session
 }
 
 // The stage behind a right Start.
-fn next(old: bool) -> u32
-    ensures { result ≡ (layout old).next }
+fn next(layout: Layout) -> u32
+    ensures { result ≡ (its layout).next }
 {
-    if old { OLD_NEXT } else { NEXT }
+    match layout {
+        Layout::Old => OLD_NEXT,
+        Layout::New => NEXT,
+    }
 }
 
 // Whether a fault became known.
 fn newly(before: u32, after: u32) -> bool
     ensures { result ≡ (before is 0 && not (after is 0)) }
 {
-    if before != ACCEPTED {
-        return false;
-    }
-    after != ACCEPTED
+    before == DONE && after != DONE
 }
 
 // ---- the record due
 
-fn due_size(old: bool, p: Progress) -> u32
-    ensures { result ≡ due_size (layout old) p }
-{
-    if p.stage == AT_START {
-        return start_size(old);
-    }
-    if p.steps < p.count {
-        return step_size(old);
-    }
-    layout::END_SIZE
+// Which record it is.
+#[derive(Clone, Copy, Debug, PartialEq, Eq)]
+enum Due {
+    Start,
+    Step,
+    End,
 }
 
-fn due_kind(old: bool, p: Progress) -> u32
-    ensures { result ≡ due_kind (layout old) p }
+impl Due {
+    fn of(p: Progress) -> Due
+        ensures { result ≡ due p Due.Start Due.Step Due.End }
+    {
+        if p.stage == AT_START {
+            return Due::Start;
+        }
+        if p.steps < p.count {
+            return Due::Step;
+        }
+        Due::End
+    }
+}
+
+fn due_size(layout: Layout, p: Progress) -> u32
+    ensures { result ≡ due_size (its layout) p }
 {
-    if p.stage == AT_START {
-        return start_kind(old);
+    match Due::of(p) {
+        Due::Start => layout.start_size(),
+        Due::Step => layout.step_size(),
+        Due::End => layout::END_SIZE,
     }
-    if p.steps < p.count {
-        return step_kind(old);
+}
+
+fn due_kind(layout: Layout, p: Progress) -> u32
+    ensures { result ≡ due_kind (its layout) p }
+{
+    match Due::of(p) {
+        Due::Start => layout.start_kind(),
+        Due::Step => layout.step_kind(),
+        Due::End => layout::END_KIND,
     }
-    layout::END_KIND
 }
 
 // A Start, whose block is the one that the first Step goes from.
-fn judge_start_into(old: bool, r: &[u8], block: &mut [u8]) -> u32
-    requires { length block.old ≡ (layout old).size }
-    ensures number { result ≡ start_number (layout old) r.now }
-    ensures block { result ≡ accepted → block.new ≡ start_of (layout old) r.now }
+#[tactic(auto, using(records::proofs::Judging::start_whole))]
+fn judge_start_into(layout: Layout, r: &[u8], block: &mut [u8]) -> Result<(), Refusal>
+    requires { length block.old ≡ (its layout).size }
+    ensures number { number_of result ≡ start_number (its layout) r.now }
+    ensures block { number_of result ≡ accepted → block.new ≡ start_of (its layout) r.now }
 {
-    let fault = judge_start(old, r);
-    if fault != ACCEPTED {
-        return fault;
-    }
-    copy(&r[layout::START_BLOCK..start_size(old) as usize], block);
-    ACCEPTED
+    judge_start(layout, r)?;
+    copy(&r[layout::START_BLOCK..layout.start_size() as usize], block);
+    Ok(())
 }
 
-// The record due, from the bytes r on: its fault, and where there is none the block that it leaves.
-fn judge_due(old: bool, p: Progress, r: &[u8], block: &mut [u8]) -> u32
-    requires { length block.old ≡ (layout old).size }
-    ensures { Due (layout old) p r.now block.old result block.new }
+// A Step, and the block after it.
+fn judge_one_step(layout: Layout, r: &[u8], block: &mut [u8]) -> Result<(), Refusal>
+    requires { length block.old ≡ (its layout).size }
+    ensures { Judged (its layout) r.now block.old (number_of result) block.new }
 {
-    if p.stage == AT_START {
-        return judge_start_into(old, r, block);
-    }
-    if p.steps < p.count {
-        return judge_steps(old, r, 1, block).fault;
-    }
-    judge_end(r, p.steps)
+    judge_steps(layout, r, 1, block).outcome
 }
 
-// n, once the record due is right.
-fn due_count(p: Progress, r: &[u8]) -> u32
-    requires { start_block_at ≤ length r.now }
-    ensures { result ≡ due_count p r.now }
+// The record due, from the bytes r on: n, where it is right, and the block that it leaves; else its fault.
+fn judge_due(layout: Layout, p: Progress, r: &[u8], block: &mut [u8]) -> Result<u32, Refusal>
+    requires { length block.old ≡ (its layout).size }
+    ensures right { IfOk result (λ n. Found (its layout) p r.now block.old accepted block.new × (n ≡ due_count p r.now)) }
+    ensures wrong { IfErr result (λ fault. Found (its layout) p r.now block.old (number fault) block.new) }
 {
-    if p.stage == AT_START {
-        return word_at(r, layout::COUNT);
+    match Due::of(p) {
+        Due::Start => {
+            judge_start_into(layout, r, block)?;
+            return Ok(word_at(r, layout::COUNT));
+        }
+        Due::Step => judge_one_step(layout, r, block)?,
+        Due::End => judge_end(r, p.steps)?,
     }
-    p.count
+    Ok(p.count)
 }
 
 // ---- what becomes of the session
 
-// Bytes of which nothing is kept.
-fn clear(bytes: &mut [u8])
-    requires { length bytes.old ≤ step_size (layout false) }
-    ensures { bytes.new ≡ replicate (length bytes.old) 0 }
-{
-    let nothing = [0u8; RECORD_SIZE];
-    copy(&nothing[..bytes.len()], bytes);
-}
-
 // A fault is known: nothing is kept but the numbers.
-fn refuse(old: bool, p: Progress, fault: u32, block: &mut [u8], unfinished: &mut [u8]) -> Progress
-    requires { Room old block.old unfinished.old }
+fn refuse(
+    layout: Layout,
+    p: Progress,
+    fault: Refusal,
+    block: &mut [u8],
+    unfinished: &mut [u8],
+) -> Progress
+    requires { Room (old layout) block.old unfinished.old }
     ensures { session result block.new unfinished.new
-        ≡ faulty (layout old) (session p block.old unfinished.old) fault }
+        ≡ faulty (its layout) (session p block.old unfinished.old) (number fault) }
 {
-    clear(block);
-    clear(unfinished);
-    let mut q = p;
-    q.held = 0;
-    q.fault = fault;
-    q
+    block.fill(0);
+    unfinished.fill(0);
+    Progress {
+        held: 0,
+        fault: fault.number(),
+        ..p
+    }
 }
 
 // The record due was right, and this is n: the next one is due.
-fn advance(old: bool, p: Progress, count: u32) -> Progress
-    ensures { result ≡ advancing (layout old) p count }
+fn advance(layout: Layout, p: Progress, count: u32) -> Progress
+    ensures { result ≡ advancing (its layout) p count }
 {
-    let place = wrapping_add_u32(p.place, due_size(old, p));
-    if p.stage == AT_START {
-        return Progress {
-            stage: next(old),
-            count,
-            steps: 0,
-            place,
-            held: 0,
-            fault: p.fault,
-            closed: p.closed,
-        };
-    }
-    if p.steps < p.count {
-        return Progress {
-            stage: p.stage,
-            count,
-            steps: p.steps + 1,
-            place,
-            held: 0,
-            fault: p.fault,
-            closed: p.closed,
-        };
-    }
+    let (stage, steps) = match Due::of(p) {
+        Due::Start => (next(layout), 0),
+        Due::Step => (p.stage, p.steps + 1),
+        Due::End => (OVER, p.steps),
+    };
     Progress {
-        stage: OVER,
+        stage,
         count,
-        steps: p.steps,
-        place,
+        steps,
+        place: p.place.wrapping_add(due_size(layout, p)),
         held: 0,
-        fault: p.fault,
-        closed: p.closed,
+        ..p
     }
 }
 
 // The record due was judged, and the block is the one that it leaves.
 fn conclude(
-    old: bool,
+    layout: Layout,
     p: Progress,
-    fault: u32,
-    count: u32,
+    outcome: Result<u32, Refusal>,
     block: &mut [u8],
     unfinished: &mut [u8],
 ) -> Progress
-    requires { Room old block.old unfinished.old }
-    ensures { session result block.new unfinished.new
-        ≡ concluded (layout old) fault p count block.old }
+    requires { Room (old layout) block.old unfinished.old }
+    ensures right { IfOk outcome (λ n. session result block.new unfinished.new
+        ≡ concluded (its layout) accepted p n block.old) }
+    ensures wrong { IfErr outcome (λ fault. session result block.new unfinished.new
+        ≡ faulty (its layout) (session p block.old unfinished.old) (number fault)) }
 {
-    if fault != ACCEPTED {
-        return refuse(old, p, fault, block, unfinished);
+    match outcome {
+        Ok(count) => {
+            unfinished.fill(0);
+            advance(layout, p, count)
+        }
+        Err(fault) => refuse(layout, p, fault, block, unfinished),
     }
-    clear(unfinished);
-    advance(old, p, count)
 }
 
-// The record due is at the front of r, whole, and is judged where it lies.
-fn judge_lying(
-    old: bool,
+// The head's fault, if its last byte is among the new ones, those behind the first so many.
+fn judge_new_head(
+    layout: Layout,
+    before: u32,
     p: Progress,
-    r: &[u8],
-    block: &mut [u8],
-    unfinished: &mut [u8],
-) -> Progress
-    requires { (start_block_at ≤ length r.now) × Room old block.old unfinished.old }
-    ensures { session result block.new unfinished.new
-        ≡ judged (layout old) (session p block.old unfinished.old) r.now }
+    unfinished: &[u8],
+) -> Result<(), Refusal>
+    ensures { number_of result ≡ head_seen (its layout) before p unfinished.now }
 {
-    let fault = judge_due(old, p, r, block);
-    let count = due_count(p, r);
-    conclude(old, p, fault, count, block, unfinished)
-}
-
-// The record due is held whole.
-fn judge_held(old: bool, p: Progress, block: &mut [u8], unfinished: &mut [u8]) -> Progress
-    requires { Room old block.old unfinished.old }
-    ensures { session result block.new unfinished.new
-        ≡ judged (layout old) (session p block.old unfinished.old) unfinished.old }
-{
-    let fault = judge_due(old, p, unfinished, block);
-    let count = due_count(p, unfinished);
-    conclude(old, p, fault, count, block, unfinished)
-}
-
-// The head's fault, if its last byte is among the new ones, those behind the first so many; else none.
-fn judge_new_head(old: bool, before: u32, p: Progress, unfinished: &[u8]) -> u32
-    ensures { result ≡ head_seen (layout old) before p unfinished.now }
-{
-    if layout::HEAD_SIZE as u32 <= before {
-        return ACCEPTED;
+    if layout::HEAD_SIZE as u32 <= before || p.held < layout::HEAD_SIZE as u32 {
+        return Ok(());
     }
-    if p.held < layout::HEAD_SIZE as u32 {
-        return ACCEPTED;
-    }
-    judge_head(unfinished, due_size(old, p), due_kind(old, p))
+    judge_head(unfinished, due_size(layout, p), due_kind(layout, p))
 }
 
 // More bytes are held, behind the first so many: those of a head show whether the record is the one due, all of them whether it
 // is right.
-fn look(old: bool, before: u32, p: Progress, block: &mut [u8], unfinished: &mut [u8]) -> Progress
-    requires { Room old block.old unfinished.old }
+fn look(
+    layout: Layout,
+    before: u32,
+    p: Progress,
+    block: &mut [u8],
+    unfinished: &mut [u8],
+) -> Progress
+    requires { Room (old layout) block.old unfinished.old }
     ensures { session result block.new unfinished.new
-        ≡ seen_from (layout old) before (session p block.old unfinished.old) }
+        ≡ seen_from (its layout) before (session p block.old unfinished.old) }
 {
-    let fault = judge_new_head(old, before, p, unfinished);
-    if fault != ACCEPTED {
-        return refuse(old, p, fault, block, unfinished);
+    if let Err(fault) = judge_new_head(layout, before, p, unfinished) {
+        return refuse(layout, p, fault, block, unfinished);
     }
-    if p.held == due_size(old, p) {
-        return judge_held(old, p, block, unfinished);
+    if p.held == due_size(layout, p) {
+        let outcome = judge_due(layout, p, unfinished, block);
+        return conclude(layout, p, outcome, block, unfinished);
     }
     p
 }
@@ -298,16 +276,8 @@ struct Turn {
     taken: usize,
 }
 
-fn least(a: usize, b: usize) -> usize
-    ensures { result ≡ (if leb a b then a else b) }
-{
-    if a <= b {
-        return a;
-    }
-    b
-}
-
 // The bytes r put into d from this place on.
+#[tactic(auto, using(records::proofs::Feeding::put_over))]
 fn put_run(d: &mut [u8], at: usize, r: &[u8])
     requires { at + length r.now ≤ length d.old }
     ensures { d.new ≡ sets d.old at r.now }
@@ -316,142 +286,150 @@ fn put_run(d: &mut [u8], at: usize, r: &[u8])
 }
 
 // Bytes of a record that is not whole yet, up to its end.
-fn hold(old: bool, p: Progress, r: &[u8], block: &mut [u8], unfinished: &mut [u8]) -> Turn
-    requires { (0 < length r.now) × Takes (layout old) p × Room old block.old unfinished.old }
-    ensures { Taken (layout old) (session p block.old unfinished.old) r.now
+#[tactic(auto, using(crate::proofs::Turns::held_taken))]
+fn hold(layout: Layout, p: Progress, r: &[u8], block: &mut [u8], unfinished: &mut [u8]) -> Turn
+    requires { (0 < length r.now) × Takes (its layout) p × Room (old layout) block.old unfinished.old }
+    ensures { Taken (its layout) (session p block.old unfinished.old) r.now
         (session result.progress block.new unfinished.new) result.taken }
 {
     let at = p.held as usize;
-    let taken = least(due_size(old, p) as usize - at, r.len());
+    let taken = (due_size(layout, p) as usize - at).min(r.len());
     put_run(unfinished, at, &r[..taken]);
-    let mut q = p;
-    q.held = (at + taken) as u32;
+    let q = Progress {
+        held: (at + taken) as u32,
+        ..p
+    };
     Turn {
-        progress: look(old, p.held, q, block, unfinished),
+        progress: look(layout, p.held, q, block, unfinished),
         taken,
     }
 }
 
 // How many Steps that are due lie whole in so many bytes; not more than a trace may have, so that a word counts their bytes.
-fn whole_steps(old: bool, p: Progress, size: usize) -> u32
+fn whole_steps(layout: Layout, p: Progress, size: usize) -> u32
     requires { p.steps < p.count }
-    ensures { (result ≤ most_steps) × (p.steps + result ≤ p.count) × (step_size (layout old) * result ≤ size)
-        × (step_size (layout old) ≤ size → 0 < result) }
+    ensures { (result ≤ most_steps) × (p.steps + result ≤ p.count) × (step_size (its layout) * result ≤ size)
+        × (step_size (its layout) ≤ size → 0 < result) }
 {
-    let most = least((p.count - p.steps) as usize, layout::MOST_STEPS as usize);
-    least(most, size / (step_size(old) as usize)) as u32
+    let most = (p.count - p.steps).min(layout::MOST_STEPS) as usize;
+    most.min(size / (layout.step_size() as usize)) as u32
 }
 
 // The numbers behind so many right Steps.
-fn step_on(old: bool, p: Progress, right: u32) -> Progress
+fn step_on(layout: Layout, p: Progress, right: u32) -> Progress
     requires { (right ≤ most_steps) × (p.steps + right ≤ p.count) }
-    ensures { result ≡ stepped (layout old) right p }
+    ensures { result ≡ stepped (its layout) right p }
 {
-    let mut q = p;
-    q.steps = p.steps + right;
-    q.place = wrapping_add_u32(p.place, steps_size(old, right));
-    q
+    Progress {
+        steps: p.steps + right,
+        place: p.place.wrapping_add(layout.steps_size(right)),
+        ..p
+    }
 }
 
 // Steps that lie whole in r, one behind the other, until one is wrong; nothing is held.
-fn take_steps(old: bool, p: Progress, r: &[u8], block: &mut [u8], unfinished: &mut [u8]) -> Turn
-    requires { (step_size (layout old) ≤ length r.now) × Takes (layout old) p × (p.held ≡ 0)
-        × (due_size (layout old) p ≡ step_size (layout old)) × (unfinished.old ≡ nothing_held (layout old))
-        × (length block.old ≡ (layout old).size) }
-    ensures { Taken (layout old) (session p block.old (nothing_held (layout old))) r.now
+fn take_steps(
+    layout: Layout,
+    p: Progress,
+    r: &[u8],
+    block: &mut [u8],
+    unfinished: &mut [u8],
+) -> Turn
+    requires { (step_size (its layout) ≤ length r.now) × Takes (its layout) p × (p.held ≡ 0)
+        × (due_size (its layout) p ≡ step_size (its layout)) × (unfinished.old ≡ nothing_held (its layout))
+        × (length block.old ≡ (its layout).size) }
+    ensures { Taken (its layout) (session p block.old (nothing_held (its layout))) r.now
         (session result.progress block.new unfinished.new) result.taken }
 {
-    let run = judge_steps(old, r, whole_steps(old, p, r.len()), block);
-    let q = step_on(old, p, run.right);
-    if run.fault != ACCEPTED {
+    let run = judge_steps(layout, r, whole_steps(layout, p, r.len()), block);
+    let q = step_on(layout, p, run.right);
+    if let Err(fault) = run.outcome {
         return Turn {
-            progress: refuse(old, q, run.fault, block, unfinished),
+            progress: refuse(layout, q, fault, block, unfinished),
             taken: r.len(),
         };
     }
     Turn {
         progress: q,
-        taken: steps_size(old, run.right) as usize,
+        taken: layout.steps_size(run.right) as usize,
     }
 }
 
 // Whether a record of this size lies whole in a run of that length: nothing of it was held before.
 fn lies_whole(held: u32, size: u32, length: usize) -> bool
-    ensures { result ≡ (held is 0 && nat_le size length) }
+    ensures { IsTrue result ↔ ((held ≡ 0) × (size ≤ length)) }
 {
-    if held != 0 {
-        return false;
-    }
-    (size as usize) <= length
+    held == 0 && size as usize <= length
 }
 
 // The first bytes of r, where the record due has room: records that lie whole in it are judged there.
-fn take_due(old: bool, p: Progress, r: &[u8], block: &mut [u8], unfinished: &mut [u8]) -> Turn
-    requires { (0 < length r.now) × Takes (layout old) p × Room old block.old unfinished.old }
-    ensures { Taken (layout old) (session p block.old unfinished.old) r.now
+#[tactic(auto, using(crate::proofs::Turns::nothing_taken))]
+fn take_due(layout: Layout, p: Progress, r: &[u8], block: &mut [u8], unfinished: &mut [u8]) -> Turn
+    requires { (0 < length r.now) × Takes (its layout) p × Room (old layout) block.old unfinished.old }
+    ensures { Taken (its layout) (session p block.old unfinished.old) r.now
         (session result.progress block.new unfinished.new) result.taken }
 {
-    let size = due_size(old, p);
+    let size = due_size(layout, p);
     if !lies_whole(p.held, size, r.len()) {
-        return hold(old, p, r, block, unfinished);
+        return hold(layout, p, r, block, unfinished);
     }
-    clear(unfinished);
-    if size == step_size(old) {
-        return take_steps(old, p, r, block, unfinished);
+    unfinished.fill(0);
+    if size == layout.step_size() {
+        return take_steps(layout, p, r, block, unfinished);
     }
+    let outcome = judge_due(layout, p, r, block);
     Turn {
-        progress: judge_lying(old, p, r, block, unfinished),
+        progress: conclude(layout, p, outcome, block, unfinished),
         taken: size as usize,
     }
 }
 
 // The first bytes of r, at least one. No feeding makes a session that holds as many bytes as its record has, or more: they leave
 // such a one as it is.
-fn take(old: bool, p: Progress, r: &[u8], block: &mut [u8], unfinished: &mut [u8]) -> Turn
-    requires { (0 < length r.now) × Room old block.old unfinished.old }
-    ensures { Taken (layout old) (session p block.old unfinished.old) r.now
+#[tactic(auto, using(crate::proofs::Turns::dead_stays, crate::proofs::Turns::full_stays, crate::proofs::Turns::too_many))]
+fn take(layout: Layout, p: Progress, r: &[u8], block: &mut [u8], unfinished: &mut [u8]) -> Turn
+    requires { (0 < length r.now) × Room (old layout) block.old unfinished.old }
+    ensures { Taken (its layout) (session p block.old unfinished.old) r.now
         (session result.progress block.new unfinished.new) result.taken }
 {
     let all = Turn {
         progress: p,
         taken: r.len(),
     };
-    if p.closed != 0 {
-        return all;
-    }
-    if p.fault != ACCEPTED {
+    if p.closed != 0 || p.fault != DONE {
         return all;
     }
     if OVER <= p.stage {
         return Turn {
-            progress: refuse(old, p, TRAILING, block, unfinished),
+            progress: refuse(layout, p, Refusal::Trailing, block, unfinished),
             taken: r.len(),
         };
     }
-    if due_size(old, p) <= p.held {
+    if due_size(layout, p) <= p.held {
         return all;
     }
-    take_due(old, p, r, block, unfinished)
+    take_due(layout, p, r, block, unfinished)
 }
 
 // A run of bytes comes to a session taken apart, in a layout.
+#[tactic(auto, using(std::proofs::lemmas::List::nil_from_length, records::proofs::Feeding::fed_nothing))]
 fn feed_in(
-    old: bool,
+    layout: Layout,
     p: Progress,
     block: &mut [u8],
     unfinished: &mut [u8],
     bytes: &[u8],
 ) -> Progress
-    requires { Room old block.old unfinished.old }
+    requires { Room (old layout) block.old unfinished.old }
     ensures { session result block.new unfinished.new
-        ≡ fed (layout old) (session p block.old unfinished.old) bytes.now }
+        ≡ fed (its layout) (session p block.old unfinished.old) bytes.now }
 {
     let mut q = p;
-    let mut at: usize = 0;
-    while at < bytes.len() {
-        let t = take(old, q, &bytes[at..], block, unfinished);
-        q = t.progress;
-        at += t.taken;
+    let mut rest = bytes;
+    while !rest.is_empty() {
+        let turn = take(layout, q, rest, block, unfinished);
+        q = turn.progress;
+        rest = &rest[turn.taken..];
     }
     q
 }
@@ -467,36 +445,40 @@ fn begun_byte(unfinished: &[u8], held: usize, bytes: &[u8], i: usize) -> u8
     bytes[i - held]
 }
 
-// Whether a Start of which these bytes are held, and these come, has the old layout.
-fn begins_old(unfinished: &[u8; RECORD_SIZE], held: u32, bytes: &[u8]) -> bool
-    ensures { result ≡ is_old (take held unfinished.now ++ bytes.now) }
+// The layout of a Start of which these bytes are held, and these come.
+#[tactic(auto, unfolding(records::specs::Layout::is_old, words::specs::Word::half))]
+fn begun_layout(unfinished: &[u8; RECORD_SIZE], held: u32, bytes: &[u8]) -> Layout
+    ensures { old result ≡ is_old (take held unfinished.now ++ bytes.now) }
 {
     if layout::HEAD_SIZE as u32 <= held {
-        return is_old(unfinished);
+        return Layout::of(unfinished);
     }
     let before = held as usize;
     if bytes.len() < layout::HEAD_SIZE - before {
-        return true;
+        return Layout::Old;
     }
-    if begun_byte(unfinished, before, bytes, KIND) != layout::START_KIND as u8 {
-        return true;
+    let low = begun_byte(unfinished, before, bytes, KIND);
+    let high = begun_byte(unfinished, before, bytes, KIND + 1);
+    if low == layout::START_KIND as u8 && high == 0 {
+        return Layout::New;
     }
-    begun_byte(unfinished, before, bytes, KIND + 1) != 0
+    Layout::Old
 }
 
 // The layout in which a run comes: while the Start is due that of its kind, then that of the stage.
-fn comes_old(p: Progress, unfinished: &[u8; RECORD_SIZE], bytes: &[u8]) -> bool
-    ensures { result ≡ comes_old p unfinished.now bytes.now }
+fn coming_layout(p: Progress, unfinished: &[u8; RECORD_SIZE], bytes: &[u8]) -> Layout
+    ensures { old result ≡ comes_old p unfinished.now bytes.now }
 {
-    if p.stage == AT_START {
-        return begins_old(unfinished, p.held, bytes);
+    match p.stage {
+        AT_START => begun_layout(unfinished, p.held, bytes),
+        NEXT => Layout::New,
+        _ => Layout::Old,
     }
-    p.stage != NEXT
 }
 
-// The same, where the block and the record have room for either layout: what lies behind those of this one stays.
+// As feed_in, where the block and the record have room for either layout: what lies behind those of this one stays.
 fn feed_front(
-    old: bool,
+    layout: Layout,
     p: Progress,
     block: &mut [u8],
     unfinished: &mut [u8],
@@ -504,20 +486,21 @@ fn feed_front(
 ) -> Progress
     requires { Room false block.old unfinished.old }
     ensures { session result block.new unfinished.new
-        ≡ widened old (session p block.old unfinished.old)
-        (fed (layout old) (narrowed old (session p block.old unfinished.old)) bytes.now) }
+        ≡ widened (old layout) (session p block.old unfinished.old)
+        (fed (its layout) (narrowed (old layout) (session p block.old unfinished.old)) bytes.now) }
 {
     feed_in(
-        old,
+        layout,
         p,
-        &mut block[..block_size(old)],
-        &mut unfinished[..step_size(old) as usize],
+        &mut block[..layout.block_size()],
+        &mut unfinished[..layout.step_size() as usize],
         bytes,
     )
 }
 
 // A run of bytes comes to a session taken apart. What lies behind the block and the record of its layout stays, until a fault is
 // known: then nothing is kept but the numbers.
+#[tactic(auto, using(records::proofs::Rooms::fed_kept))]
 pub fn feed(
     p: Progress,
     block: &mut [u8; BLOCK_SIZE],
@@ -527,8 +510,8 @@ pub fn feed(
     ensures { session result block.new unfinished.new
         ≡ fed_session (session p block.old unfinished.old) bytes.now }
 {
-    let old = comes_old(p, unfinished, bytes);
-    let q = feed_front(old, p, block, unfinished, bytes);
+    let layout = coming_layout(p, unfinished, bytes);
+    let q = feed_front(layout, p, block, unfinished, bytes);
     if newly(p.fault, q.fault) {
         *block = [0u8; BLOCK_SIZE];
         *unfinished = [0u8; RECORD_SIZE];
@@ -543,7 +526,7 @@ pub fn feed_number(p: Progress) -> u32
     ensures { result ≡ feed_number p }
 {
     if p.closed != 0 {
-        return CLOSED;
+        return Refusal::Closed.number();
     }
     p.fault
 }
@@ -563,19 +546,17 @@ pub fn close(p: Progress) -> Report
 pub fn shut(p: Progress) -> Progress
     ensures { result ≡ shutting p }
 {
-    let mut q = p;
-    q.closed = 1;
-    q
+    Progress { closed: 1, ..p }
 }
 
 fn close_number(p: Progress) -> u32
     ensures { result ≡ close_number p }
 {
-    if p.fault != ACCEPTED {
+    if p.fault != DONE {
         return p.fault;
     }
     if OVER <= p.stage {
-        return ACCEPTED;
+        return DONE;
     }
-    SHORT
+    Refusal::Short.number()
 }

@@ -8,7 +8,8 @@ use native.Mathlib.Omega.{arith}
 use borrow.Author.Tests.{eqb-false, not-false}
 use Rattle.state.specs.Choice.{◌is◌, first_of}
 use Rattle.state.specs.Field.{bits, mode_field, SCR_NS, HCR_TGE}
-use Rattle.state.specs.Mode.{known}
+use Rattle.state.specs.Mode.{known, el1}
+use Rattle.state.specs.declared.mode.TheConstants.{UNKNOWN, UNKNOWN_OR_EL1, UNKNOWN_OR_HYP}
 use Rattle.state.specs.Number.{DONE, BAD_MODE, BAD_STATE}
 use Rattle.state.specs.Parts.{in_set, BadModes, mode_fault}
 pub use Rattle.state.specs.Parts.{stands}
@@ -56,6 +57,19 @@ bad_modes set {ns} {tge} p q h m l =
     rw (p, q)
     (same_eq (in_set set m) (not (known m && stands m ns tge))
     (at_below 32 (λ m. same (in_set set m) (not (known m && stands m ns tge))) h m l))
+
+-- the code's three sets, each by the bits that it is taken at
+pub with_tge : {a b : Bool} → a ≡ true → b ≡ true → BadModes a b UNKNOWN_OR_EL1
+unfolding known el1
+with_tge p q = bad_modes UNKNOWN_OR_EL1 p q refl
+
+pub without_tge : {a b : Bool} → a ≡ true → b ≡ false → BadModes a b UNKNOWN
+unfolding known el1
+without_tge p q = bad_modes UNKNOWN p q refl
+
+pub with_ns_0 : {a : Bool} (b : Bool) → a ≡ false → BadModes a b UNKNOWN_OR_HYP
+unfolding known el1
+with_ns_0 b p = bad_modes UNKNOWN_OR_HYP {b = b} p refl refl
 
 -- in a bad mode, and in another with one of bits 24 to 21 set
 rows_bad : (k c s : Bool) → not (k && s) ≡ true → (if k then BAD_STATE else BAD_MODE) ≡ fault_rows (not k) (not (k && (c && s)))

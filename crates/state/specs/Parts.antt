@@ -1,10 +1,13 @@
 -- What the code's own parts answer. Nobody has to believe these: they stand between the code and the rules, and the
 -- laws of proofs/ join them to `fault_of`.
-use Rattle.std.specs.Prelude.{◌≡◌, Bool, not, ◌&&◌, ◌||◌, ℕ, ◌/◌, ◌^◌, ◌<◌, eqb, if◌then◌else◌}
+use Rattle.std.specs.Prelude.{List, Option, None, Some, ◌≡◌, Bool, not, ◌&&◌, ◌||◌, ℕ, ◌/◌, ◌^◌, ◌<◌, eqb, if◌then◌else◌}
 use Rattle.std.specs.Int.Bits.{bit_and}
+use Rattle.words.specs.Word.{word}
+use Rattle.state.specs.declared.state.Status.{Status}
 use Rattle.state.specs.Choice.{◌is◌}
 use Rattle.state.specs.Field.{mode_field}
 use Rattle.state.specs.Mode.{MONITOR, HYP, known, el1}
+use Rattle.state.specs.Place.{NO_PLACE, CPSR, SCR}
 use Rattle.state.specs.Number.{BAD_MODE, BAD_STATE}
 
 -- is n in the set, a word with bit n for the mode of number n?
@@ -22,3 +25,12 @@ BadModes ns tge set = (m : ℕ) → m < 32 → in_set set m ≡ not (known m && 
 -- the answer to a block in one of them
 abbrev pub mode_fault : ℕ → ℕ
 mode_fault cpsr = if known (mode_field cpsr) then BAD_STATE else BAD_MODE
+
+-- a place, or the mark where there is none
+abbrev pub place_or_none : Option ℕ → ℕ
+place_or_none None = NO_PLACE
+place_or_none (Some p) = p
+
+-- CPSR and SCR of the block, as they were read
+abbrev pub ReadFrom : List ℕ → Status → Type 0
+ReadFrom b status = (status.cpsr ≡ word b CPSR) × (status.scr ≡ word b SCR)

@@ -4,6 +4,6 @@
 
 pub mod field;
 pub mod mode;
-pub mod number;
 pub mod place;
+pub mod refusal;
 pub mod state;

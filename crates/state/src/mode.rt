@@ -1,12 +1,14 @@
 // The nine modes (document 01, "The state block"), and where each keeps its return address and its saved state.
-ghost use Rattle.std.specs.Prelude.{◌≡◌, eqb};
+ghost use Rattle.std.specs.Prelude.{◌≡◌, ◌<◌, ◌&&◌, ltb, IfSome};
 ghost use Rattle.state.specs.Field.{mode_field};
 ghost use Rattle.state.specs.Mode.{known, el1, guest, spsr_place, lr_place};
+ghost use Rattle.state.specs.Parts.{in_set, place_or_none};
+ghost use Rattle.state.specs.Place.{PLACES};
 
 use crate::place;
 
 // A mode, by the number that CPSR has for it.
-#[derive(Clone, Copy)]
+#[derive(Clone, Copy, Debug, PartialEq, Eq)]
 pub struct Mode {
     pub number: u32,
 }
@@ -59,96 +61,75 @@ impl Mode {
         Mode { number: cpsr % 32 }
     }
 
-    // Is it the other mode?
-    pub fn is(self, other: Mode) -> bool
-        ensures { result ≡ eqb self.number other.number }
+    // Is it in the set, a word with bit n for the mode of number n?
+    fn is_in(self, set: u32) -> bool
+        ensures { result ≡ (ltb self.number 32 && in_set set self.number) }
     {
-        self.number == other.number
+        if self.number < 32 {
+            set >> self.number & 1 == 1
+        } else {
+            false
+        }
     }
 
     // Is it one of the nine?
+    #[tactic(auto, using(crate::proofs::Sets::known_says))]
     pub fn is_known(self) -> bool
         ensures { result ≡ known self.number }
     {
-        let n = self.number;
-        if n < 32 { MODES >> n & 1 == 1 } else { false }
+        self.is_in(MODES)
     }
 
     // FIQ, IRQ, Supervisor, Abort, Undefined or System?
+    #[tactic(auto, using(crate::proofs::Sets::el1_says))]
     pub fn is_el1(self) -> bool
         ensures { result ≡ el1 self.number }
     {
-        let n = self.number;
-        if n < 32 {
-            EL1_MODES >> n & 1 == 1
-        } else {
-            false
-        }
+        self.is_in(EL1_MODES)
     }
 
     // One of those, or User?
+    #[tactic(auto, using(crate::proofs::Sets::guest_says))]
     pub fn is_guest(self) -> bool
         ensures { result ≡ guest self.number }
     {
-        let n = self.number;
-        if n < 32 {
-            GUEST_MODES >> n & 1 == 1
-        } else {
-            false
-        }
+        self.is_in(GUEST_MODES)
     }
 
     // The place of its SPSR; User and System have none.
     #[tactic(auto, unfolding(crate::specs::Mode::spsr_place))]
-    pub fn spsr_place(self) -> usize
-        ensures { result ≡ spsr_place self.number }
+    pub fn spsr_place(self) -> Option<usize>
+        ensures place { place_or_none result ≡ spsr_place self.number }
+        ensures inside { IfSome result (λ p. p < PLACES) }
     {
-        let n = self.number;
-        if n == Mode::FIQ.number {
-            place::SPSR_FIQ
-        } else if n == Mode::IRQ.number {
-            place::SPSR_IRQ
-        } else if n == Mode::SUPERVISOR.number {
-            place::SPSR_SVC
-        } else if n == Mode::ABORT.number {
-            place::SPSR_ABT
-        } else if n == Mode::UNDEFINED.number {
-            place::SPSR_UND
-        } else if n == Mode::MONITOR.number {
-            place::SPSR_MON
-        } else if n == Mode::HYP.number {
-            place::SPSR_HYP
-        } else {
-            place::NO_PLACE
+        match self {
+            Mode::FIQ => Some(place::SPSR_FIQ),
+            Mode::IRQ => Some(place::SPSR_IRQ),
+            Mode::SUPERVISOR => Some(place::SPSR_SVC),
+            Mode::ABORT => Some(place::SPSR_ABT),
+            Mode::UNDEFINED => Some(place::SPSR_UND),
+            Mode::MONITOR => Some(place::SPSR_MON),
+            Mode::HYP => Some(place::SPSR_HYP),
+            _ => None,
         }
     }
 
-    // The place of its return address: its LR, for Hyp ELR_hyp.
+    // The place of its return address: its LR, for Hyp ELR_hyp. Only what is none of the nine has none.
     #[tactic(auto, unfolding(crate::specs::Mode::lr_place))]
-    pub fn lr_place(self) -> usize
-        ensures { result ≡ lr_place self.number }
+    pub fn lr_place(self) -> Option<usize>
+        ensures place { place_or_none result ≡ lr_place self.number }
+        ensures inside { IfSome result (λ p. p < PLACES) }
     {
-        let n = self.number;
-        if n == Mode::USER.number {
-            place::LR_USR
-        } else if n == Mode::FIQ.number {
-            place::LR_FIQ
-        } else if n == Mode::IRQ.number {
-            place::LR_IRQ
-        } else if n == Mode::SUPERVISOR.number {
-            place::LR_SVC
-        } else if n == Mode::ABORT.number {
-            place::LR_ABT
-        } else if n == Mode::UNDEFINED.number {
-            place::LR_UND
-        } else if n == Mode::MONITOR.number {
-            place::LR_MON
-        } else if n == Mode::HYP.number {
-            place::ELR_HYP
-        } else if n == Mode::SYSTEM.number {
-            place::LR_USR
-        } else {
-            place::NO_PLACE
+        match self {
+            Mode::USER | Mode::SYSTEM => Some(place::LR_USR),
+            Mode::FIQ => Some(place::LR_FIQ),
+            Mode::IRQ => Some(place::LR_IRQ),
+            Mode::SUPERVISOR => Some(place::LR_SVC),
+            Mode::ABORT => Some(place::LR_ABT),
+            Mode::UNDEFINED => Some(place::LR_UND),
+            Mode::MONITOR => Some(place::LR_MON),
+            Mode::HYP => Some(place::ELR_HYP),
+            _ => None,
         }
     }
 }

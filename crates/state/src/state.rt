@@ -1,105 +1,72 @@
 // What every rule asks of the words CPSR, SCR and HCR: the mode, the Security state, and whether the block is good
 // (document 01, "The state block" and "Answer numbers").
-ghost use Rattle.std.specs.Prelude.{◌≡◌, ◌&&◌, ◌||◌};
-ghost use Rattle.state.specs.Choice.{◌is◌};
-ghost use Rattle.state.specs.Field.{mode_field, SCR_NS, HCR_TGE};
-ghost use Rattle.state.specs.Mode.{USER, MONITOR, HYP, known, el1, guest};
+ghost use Rattle.std.specs.Prelude.{◌≡◌};
+ghost use Rattle.state.specs.Field.{mode_field, SCR_NS as ns_of, HCR_TGE as tge_of};
 ghost use Rattle.state.specs.Parts.{BadModes, mode_fault};
+ghost use Rattle.state.specs.Refusal.{number, number_of};
 ghost use Rattle.state.specs.State.{secure, fault_of};
 
-use crate::field::{hcr_tge, scr_ns};
+use crate::field::{HCR_TGE, SCR_NS, is_set};
+use crate::mode;
 use crate::mode::Mode;
-use crate::{mode, number};
+use crate::refusal::Refusal;
 
-// Both, and either: as calls, so that a test of two parts stays one test in a proof.
-pub fn both(a: bool, b: bool) -> bool
-    ensures { result ≡ (a && b) }
-{
-    if a { b } else { false }
+// The two words of a block that every rule asks, as they were read.
+#[derive(Clone, Copy, Debug, PartialEq, Eq)]
+pub struct Status {
+    pub cpsr: u32,
+    pub scr: u32,
 }
 
-pub fn either(a: bool, b: bool) -> bool
-    ensures { result ≡ (a || b) }
-{
-    if a { true } else { b }
-}
+impl Status {
+    // The mode that CPSR names.
+    pub fn mode(self) -> Mode
+        ensures { result ≡ record { number = mode_field self.cpsr } }
+    {
+        Mode::of(self.cpsr)
+    }
 
-// The mode that CPSR names, asked by name.
-pub fn is_user(cpsr: u32) -> bool
-    ensures { result ≡ (mode_field cpsr is USER) }
-{
-    cpsr % 32 == Mode::USER.number
-}
+    // Is the state Secure? Monitor is, whatever NS says.
+    pub fn is_secure(self) -> bool
+        ensures { result ≡ secure self.cpsr self.scr }
+    {
+        !is_set::<SCR_NS>(self.scr) | (self.mode() == Mode::MONITOR)
+    }
 
-pub fn is_monitor(cpsr: u32) -> bool
-    ensures { result ≡ (mode_field cpsr is MONITOR) }
-{
-    cpsr % 32 == Mode::MONITOR.number
-}
-
-pub fn is_hyp(cpsr: u32) -> bool
-    ensures { result ≡ (mode_field cpsr is HYP) }
-{
-    cpsr % 32 == Mode::HYP.number
-}
-
-pub fn is_known(cpsr: u32) -> bool
-    ensures { result ≡ known (mode_field cpsr) }
-{
-    Mode::of(cpsr).is_known()
-}
-
-pub fn is_el1(cpsr: u32) -> bool
-    ensures { result ≡ el1 (mode_field cpsr) }
-{
-    Mode::of(cpsr).is_el1()
-}
-
-pub fn is_guest(cpsr: u32) -> bool
-    ensures { result ≡ guest (mode_field cpsr) }
-{
-    Mode::of(cpsr).is_guest()
-}
-
-// Is the state Secure? Monitor is, whatever NS says.
-pub fn is_secure(cpsr: u32, scr: u32) -> bool
-    ensures { result ≡ secure cpsr scr }
-{
-    either(!scr_ns(scr), is_monitor(cpsr))
-}
-
-// The modes in which no block with this SCR and HCR is good, as a set: one look at it stands for all tests of the mode.
-fn bad_modes(scr: u32, hcr: u32) -> u32
-    ensures { BadModes (SCR_NS scr) (HCR_TGE hcr) result }
-{
-    if scr_ns(scr) {
-        if hcr_tge(hcr) {
-            return mode::UNKNOWN_OR_EL1;
+    // The modes in which no block with this SCR and HCR is good, as a set: one look at it stands for all tests of the mode.
+    #[tactic(auto, using(crate::proofs::Good::with_tge, crate::proofs::Good::without_tge, crate::proofs::Good::with_ns_0))]
+    fn bad_modes(self, hcr: u32) -> u32
+        ensures { BadModes (ns_of self.scr) (tge_of hcr) result }
+    {
+        if is_set::<SCR_NS>(self.scr) {
+            if is_set::<HCR_TGE>(hcr) {
+                return mode::UNKNOWN_OR_EL1;
+            }
+            return mode::UNKNOWN;
         }
-        return mode::UNKNOWN;
+        mode::UNKNOWN_OR_HYP
     }
-    mode::UNKNOWN_OR_HYP
-}
 
-// The answer to a block in one of them.
-fn mode_fault(cpsr: u32) -> u32
-    ensures { result ≡ mode_fault cpsr }
-{
-    if is_known(cpsr) {
-        return number::BAD_STATE;
+    // The answer to a block in one of them.
+    fn mode_fault(self) -> Refusal
+        ensures { number result ≡ mode_fault self.cpsr }
+    {
+        if self.mode().is_known() {
+            return Refusal::BadState;
+        }
+        Refusal::BadMode
     }
-    number::BAD_MODE
-}
 
-// BAD_MODE, BAD_STATE, or DONE where the three words are those of a good block.
-pub fn fault_of(cpsr: u32, scr: u32, hcr: u32) -> u32
-    ensures { result ≡ fault_of cpsr scr hcr }
-{
-    if bad_modes(scr, hcr) >> (cpsr % 32) & 1 == 1 {
-        return mode_fault(cpsr);
+    // Are the three words, this HCR with them, those of a good block? BAD_MODE or BAD_STATE where they are not.
+    pub fn judge(self, hcr: u32) -> Result<(), Refusal>
+        ensures { number_of result ≡ fault_of self.cpsr self.scr hcr }
+    {
+        if self.bad_modes(hcr) >> (self.cpsr % 32) & 1 == 1 {
+            return Err(self.mode_fault());
+        }
+        if self.cpsr / 0x20_0000 % 16 * 0x20_0000 != 0 {
+            return Err(Refusal::BadState);
+        }
+        Ok(())
     }
-    if cpsr / 0x20_0000 % 16 * 0x20_0000 != 0 {
-        return number::BAD_STATE;
-    }
-    number::DONE
 }

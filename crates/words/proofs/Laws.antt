@@ -1,18 +1,30 @@
 -- What a reader expects of word and put: a word put is read back, the other words stay, the length stays, bytes stay bytes.
 -- Nothing outside this file looks inside the two definitions.
 use mathlib.Core.Path.{◌≡◌, refl, ◌∙◌}
-use mathlib.Core.List.{List, [], ◌∷◌}
-use Prim.Native.Nat.{ℕ, zero, suc, ◌+◌, ◌*◌, ◌/◌, ◌%◌, ◌^◌, ◌<◌, ◌≤◌}
+use mathlib.Core.List.{List, [], ◌∷◌, append_assoc}
+use Prim.Native.Nat.{ℕ, zero, suc, ◌+◌, ◌-◌, ◌*◌, ◌/◌, ◌%◌, ◌^◌, ◌<◌, ◌≤◌}
 use native.Mathlib.Omega.{arith}
 use native.Mathlib.Numerals.{add-one, add-two, add-three}
 use lib.ListN.{length, get_or, set, drop, length-set}
 use lib.Dec.{lit<}
-use lib.Seq.{sets, get_or-set_same, get_or-set_other, length-sets, drop-set-lt}
+use lib.Seq.{sets, sets-eq, get_or-set_same, get_or-set_other, length-sets, drop-drop, drop-set-lt}
+use borrow.Rule.Slice.PartMut.{put_mid}
+use Rattle.std.specs.Int.{w32, to_le_bytes}
 use Rattle.words.specs.Word.{le32, spelt, word, put, Bytes}
 
 pub length-put : (b : List ℕ) (p w : ℕ) → length (put b p w) ≡ length b
 unfolding put
 length-put b p w = length-sets b (4 * p) (le32 w)
+
+-- the four bytes, as std makes them, copied over those at the place
+pub put_is : (b : List ℕ) (p w : ℕ) → 4 * p + 4 ≤ length b
+    → put b p w ≡ put_mid (4 * p) (4 * p + 4 - 4 * p) b (to_le_bytes w32 w)
+unfolding put
+put_is b p w h =
+    let two : w / 256 / 256 ≡ w / 256 ^ 2 = omega arith in
+    let three : w / 256 / 256 / 256 ≡ w / 256 ^ 3 = omega arith in
+    let four : 4 * p + 4 - 4 * p ≡ 4 = omega arith in
+    rw (four, drop-drop, sets-eq (le32 w) b (4 * p) h, append_assoc, three, two)
 
 -- the stores one by one, each at its own byte
 put_sets : (b : List ℕ) (p w : ℕ)

@@ -1,24 +1,21 @@
 // Runs of bytes.
 ghost use Rattle.std.specs.Prelude.{◌≡◌, true, ◌↔◌, ◌≤◌, length, take, drop, ◌++◌};
-ghost use Rattle.words.specs.Runs.{Agree};
 
-// Whether the two runs have the same bytes from the one place up to the other. The loop has no early exit, so that the
-// compiler takes many bytes at a time.
-fn same_between(a: &[u8], b: &[u8], from: usize, to: usize) -> bool
-    requires { (from ≤ to) × (to ≤ length a.now) × (to ≤ length b.now) }
-    ensures { (result ≡ true) ↔ Agree a.now b.now from to }
+// Whether two runs of one length are the same bytes. The loop has no early exit, so that the compiler takes many bytes
+// at a time.
+fn same_bytes(a: &[u8], b: &[u8]) -> bool
+    requires { length a.now ≡ length b.now }
+    ensures { (result ≡ true) ↔ (a.now ≡ b.now) }
 {
     let mut alike = true;
-    let mut i = from;
-    while i < to {
-        alike = alike & (a[i] == b[i]);
-        i += 1;
+    for (x, y) in a.iter().zip(b) {
+        alike &= x == y;
     }
     alike
 }
 
 // Whether the two runs are the same bytes. The compiler takes 32 bytes at a time: the whole 32s are compared first, the
-// rest apart, so that neither loop has both to do. That is 7 instructions fewer for two blocks.
+// rest apart, so that neither loop has both to do. That is fewer instructions for two blocks.
 pub fn same(a: &[u8], b: &[u8]) -> bool
     ensures { (result ≡ true) ↔ (a.now ≡ b.now) }
 {
@@ -26,10 +23,9 @@ pub fn same(a: &[u8], b: &[u8]) -> bool
         return false;
     }
     let even = a.len() / 32 * 32;
-    if !same_between(a, b, 0, even) {
-        return false;
-    }
-    same_between(a, b, even, a.len())
+    let (a_front, a_rest) = a.split_at(even);
+    let (b_front, b_rest) = b.split_at(even);
+    same_bytes(a_front, b_front) && same_bytes(a_rest, b_rest)
 }
 
 // Puts the bytes of the one run over the first of the other.

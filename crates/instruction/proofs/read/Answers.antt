@@ -34,4 +34,4 @@ returns c =
     let w = c.args.word in
     let no_mrs = sym (c.has_bits.ensures ∙ mrs_bits w) ∙ c.if-has_bits.false in
     let no_msr = sym (c.has_bits-2.ensures ∙ msr_bits w) ∙ c.if-has_bits-2.false in
-    c.none.ensures ∙ read_none w no_mrs no_msr
+    read_none w no_mrs no_msr

@@ -1,45 +1,33 @@
 -- Each turn judges the next Step: a fault is told at once, and behind a right one the next is judged.
-use mathlib.Core.Path.{◌≡◌, sym, ◌∙◌}
-use lib.ListN.{length}
-use borrow.Author.Rules.{rules}
-use Rattle.records.proofs.Lawfuls.{lawful, size_wide}
-use Rattle.records.proofs.Judging.{reached_none, reached_next, reached_wrong, reached_all, rest_is}
+use mathlib.Core.Path.{◌≡◌}
+use Prim.Native.Nat.{◌+◌, ◌*◌}
+use native.Mathlib.Nat.{mul-zero}
+use native.Mathlib.Omega.{arith}
+use Rattle.std.proofs.Math.Nat.{mul-add}
+use Rattle.records.proofs.Lawfuls.{lawful}
+use Rattle.records.proofs.Judging.{reached_none, reached_next, reached_wrong, rest_is}
 use Rattle.records.specs.Layout.{layout}
+use Rattle.records.specs.Which.{old, its}
 use Rattle.judgements.proofs.judge_each.Goals as goal
 
-pub loop-k-init : goal.loop-k-init
-loop-k-init c = (reached_none (layout c.args.old) _ _ _ c.requires.size, c.requires)
+pub loop-right-init : goal.loop-right-init
+loop-right-init c =
+    rw (mul-zero c.step_size-size.result) (reached_none (its c.args.layout) _ _ _ c.requires.size, c.requires)
 
-pub judge_step-fault-requires : goal.judge_step-fault-requires
-judge_step-fault-requires c = c.loop-k.invariant.1
+pub returns-then-is_err : goal.returns-then-is_err
+returns-then-is_err c =
+    let t = old c.args.layout in
+    let j = rw (rest_is c.args.r.now _) at c.judge_step-outcome.ensures in
+    reached_wrong (layout t) (lawful t) _ _ _ _ _ _ c.loop-right.invariant.0 c.loop-right-test.true _ _ j.judged
+    (grind arith)
 
--- the block has the machine's size throughout
-pub shape_of-block-then-fault-ne-ACCEPTED : goal.shape_of-block-then-fault-ne-ACCEPTED
-shape_of-block-then-fault-ne-ACCEPTED c =
-    let sizes : length c.loop-k.block ≡ length c.args.block.now =
-    size_wide _ _ c.loop-k.invariant.1 ∙ sym (size_wide _ _ c.requires) in
-    search (rules, sizes)
-
-pub returns-then-fault-ne-ACCEPTED : goal.returns-then-fault-ne-ACCEPTED
-returns-then-fault-ne-ACCEPTED c =
-    let old = c.args.old in
-    let j = rw (rest_is c.args.r.now c.loop-k.at) at c.judge_step-fault.ensures in
-    reached_wrong (layout old) (lawful old) _ _ _ _ _ _ c.loop-k.invariant.0 c.loop-k-test.true _ _ j.judged
-    c.if-fault-ne-ACCEPTED.true
-
-pub loop-k-preserved : goal.loop-k-preserved
-loop-k-preserved c =
-    let old = c.args.old in
-    let j = rw (rest_is c.args.r.now c.loop-k.at) at c.judge_step-fault.ensures in
-    let next = reached_next (layout old) (lawful old) _ _ _ _ _ _ c.loop-k.invariant.0 c.loop-k-test.true _ _ j.judged _
-    c.step_size-size.ensures c.if-fault-ne-ACCEPTED.false in
-    (next, j.still c.if-fault-ne-ACCEPTED.false)
-
-pub shape_of-block : goal.shape_of-block
-shape_of-block c =
-    let sizes : length c.loop-k.block ≡ length c.args.block.now =
-    size_wide _ _ c.loop-k.invariant.1 ∙ sym (size_wide _ _ c.requires) in
-    search (rules, sizes)
-
-pub returns : goal.returns
-returns c = reached_all (layout c.args.old) _ _ _ _ _ _ c.loop-k.invariant.0 c.loop-k-test.false
+pub loop-right-preserved : goal.loop-right-preserved
+loop-right-preserved c =
+    let t = old c.args.layout in
+    let j = rw (rest_is c.args.r.now _) at c.judge_step-outcome.ensures in
+    let next = reached_next (layout t) (lawful t) _ _ _ _ _ _ c.loop-right.invariant.0 c.loop-right-test.true _ _ j.judged _
+    c.step_size-size.ensures (grind arith) in
+    let k = c.loop-right.right in
+    let size = c.step_size-size.result in
+    let place : size * k + size ≡ size * (k + 1) = omega (arith, mul-add size k 1) in
+    rw (← place) (next, j.still (grind arith))

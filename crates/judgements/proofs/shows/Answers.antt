@@ -5,12 +5,14 @@ use mathlib.Core.Bool.{Bool, true, false}
 use mathlib.Core.List.{List, ◌++◌}
 use Prim.Native.Nat.{ℕ}
 use native.Mathlib.Omega.{arith}
+use borrow.Author.Rules.{rules}
 use lib.ListN.{take, drop, length, take-append-drop}
 use lib.Dec.{lit≤}
-use lib.Seq.{take_all, take-take, length-take-le}
+use lib.Seq.{take_all, take-take}
 use Rattle.state.specs.Place.{BLOCK_SIZE, OLD_BLOCK_SIZE}
 use Rattle.records.specs.Judged.{ShowsBehind, narrow}
 use Rattle.records.specs.Layout.{layout, block_after_at}
+use Rattle.records.specs.Which.{old}
 use Rattle.judgements.proofs.shows.Goals as goal
 
 -- ---- the block of either layout: what both have, and HDCR behind it
@@ -38,21 +40,16 @@ module _ (r b : List ℕ) where
       ∙ take-append-drop OLD_BLOCK_SIZE b
       ∙ sym (take_all BLOCK_SIZE b (omega arith))
 
-old_part : (b : List ℕ) → length b ≡ BLOCK_SIZE → OLD_BLOCK_SIZE ≡ length (take OLD_BLOCK_SIZE b)
-old_part b h = sym (length-take-le OLD_BLOCK_SIZE b (omega arith))
-
-pub slice_bounds-same-end-2 : goal.slice_bounds-same-end-2
-slice_bounds-same-end-2 c = old_part c.args.block.now c.requires.2
-
 pub returns : goal.returns
 returns c =
     let x = c.args in
-    let hdcr : ShowsBehind x.old x.r.now x.block.now = c.shows_hdcr.ensures.0 c.if-not-shows_hdcr.false in (
+    let hdcr : ShowsBehind (old x.layout) x.r.now x.block.now = c.shows_hdcr.ensures.0 c.if-not-shows_hdcr.false in
+    let size : length x.block.now ≡ BLOCK_SIZE = search rules in (
       (λ e.
           record {
-            number = sym c.word_at.ensures ∙ c.if-word_at-get_word.false ∙ c.get_word.ensures;
-            value = sym c.word_at-2.ensures ∙ c.if-word_at-get_word-2.false ∙ c.get_word-2.ensures;
-            block = whole x.r.now x.block.now x.old c.requires.2 (c.same.ensures.0 e) hdcr;
+            number = sym c.word_at.ensures ∙ c.if-word_at-answer.false;
+            value = sym c.word_at-2.ensures ∙ c.if-word_at-answer-2.false;
+            block = whole x.r.now x.block.now (old x.layout) size (c.same.ensures.0 e) hdcr;
           }),
-      (λ s. c.same.ensures.1 (front x.r.now x.block.now x.old s.block)),
+      (λ s. c.same.ensures.1 (front x.r.now x.block.now (old x.layout) s.block)),
     )

@@ -5,5 +5,5 @@ use Rattle.recorder.proofs.put_step.Goals as goal
 pub returns : goal.returns
 returns c =
     let e = c.args.e in
-    step_written c.args.part.now e _ (c.direct_code.ensures e.b) c.requires c.copy_block.ensures c.put_event.ensures
-    c.replay.ensures.leaves c.replay.ensures.answers c.copy.ensures.1
+    step_written c.args.part.now e _ c.step_event-answer.result (c.direct_code.ensures e.b) c.requires c.copy_block.ensures
+    c.put_event.ensures c.step_event-answer.ensures.answers c.step_event-answer.ensures.leaves c.put_word.ensures c.put_word-2.ensures

@@ -1,26 +1,16 @@
--- A head that is not the one due, a whole record, or neither.
-use Rattle.std.proofs.Common.{sym, ◌∙◌}
-use Rattle.records.specs.Layout.{layout}
-use Rattle.records.proofs.Taking.{seen_bad, seen_whole, seen_not}
+-- A record that is held whole is judged.
+use Rattle.std.proofs.Common.{◌∙◌, rules}
+use Rattle.records.specs.Which.{its}
+use Rattle.records.specs.Session.{session}
+use Rattle.records.proofs.Taking.{seen_whole}
+use Rattle.session.proofs.Concluding.{concluded_of}
 use Rattle.session.proofs.look.Goals as goal
-
-pub returns-then-fault-ne-ACCEPTED : goal.returns-then-fault-ne-ACCEPTED
-returns-then-fault-ne-ACCEPTED c =
-    let x = c.args in
-    c.refuse.ensures
-    ∙ seen_bad (layout x.old) x.before x.p x.block.now x.unfinished.now _ c.judge_new_head-fault.ensures
-    c.if-fault-ne-ACCEPTED.true
 
 pub returns-then-p-due_size : goal.returns-then-p-due_size
 returns-then-p-due_size c =
     let x = c.args in
-    let right = sym c.judge_new_head-fault.ensures ∙ c.if-fault-ne-ACCEPTED.false in
-    c.judge_held.ensures
-    ∙ seen_whole (layout x.old) x.before x.p x.block.now x.unfinished.now right (c.if-p-due_size.true ∙ c.due_size.ensures)
-
-pub returns : goal.returns
-returns c =
-    let x = c.args in
-    let right = sym c.judge_new_head-fault.ensures ∙ c.if-fault-ne-ACCEPTED.false in
-    seen_not (layout x.old) x.before x.p x.block.now x.unfinished.now right
-    (λ e. c.if-p-due_size.false (e ∙ sym c.due_size.ensures))
+    let judged = c.judge_due-outcome in
+    let left = session c.conclude.result c.conclude.new.block c.conclude.new.unfinished in
+    concluded_of (its x.layout) x.p x.unfinished.now x.block.now judged.new.block x.unfinished.now x.unfinished.now left
+    judged.result judged.ensures.right judged.ensures.wrong c.conclude.ensures.right c.conclude.ensures.wrong
+    ∙ seen_whole (its x.layout) x.before x.p x.block.now x.unfinished.now (search rules) (search rules)

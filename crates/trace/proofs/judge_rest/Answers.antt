@@ -2,14 +2,15 @@
 use mathlib.Core.List.{List}
 use mathlib.Core.Path.{◌≡◌, sym, ap, ◌∙◌}
 use Prim.Native.Nat.{ℕ, ◌-◌, ◌*◌}
+use native.Mathlib.Omega.{arith}
 use lib.ListN.{length, take, drop}
 use lib.Seq.{drop-drop}
 use Rattle.records.proofs.Judging.{went_wrong, went_all, rest_is}
-use Rattle.records.specs.declared.run.Run.{Run}
 use Rattle.records.specs.declared.report.Report.{Report}
-use Rattle.records.specs.Layout.{Layout, layout, start_size, step_size, place_of}
-use Rattle.records.specs.Judged.{Went}
+use Rattle.records.specs.Layout.{Layout, start_size, step_size, place_of}
+use Rattle.records.specs.Judged.{Run, Went}
 use Rattle.records.specs.Report.{end_report, report_from}
+use Rattle.records.specs.Which.{its}
 use Rattle.trace.proofs.judge_rest.Goals as goal
 
 -- the Steps were judged behind the Start, from this place on
@@ -33,13 +34,16 @@ module _ (L : Layout) (trace : List ℕ) (n : ℕ) (b d : List ℕ) (v : Run) (f
         rest_is trace place ∙ ap (λ k. drop k trace) p ∙ sym (drop-drop (step_size L * v.right) (start_size L) trace) in
         (λ i. end_report n (p i) (end_is i)) ∙ went_all L b rest n v d went z
 
-pub returns-then-run-ne-ACCEPTED : goal.returns-then-run-ne-ACCEPTED
-returns-then-run-ne-ACCEPTED c =
-    told_wrong (layout c.args.old) c.args.trace.now c.args.steps _ _ _ _ c.start_size.ensures c.judge_steps-run.ensures _
-    c.place_of-place.ensures c.if-run-ne-ACCEPTED.true
+pub returns-then-is_err : goal.returns-then-is_err
+returns-then-is_err c =
+    let x = c.args in
+    c.report_of.ensures
+    ∙ told_wrong (its x.layout) x.trace.now x.steps _ _ _ _ c.start_size.ensures c.judge_steps-run.ensures _ c.place_of-place.ensures
+    (grind arith)
 
 pub returns : goal.returns
 returns c =
+    let x = c.args in
     c.finish.ensures
-    ∙ told_right (layout c.args.old) c.args.trace.now c.args.steps _ _ _ _ c.start_size.ensures c.judge_steps-run.ensures _
-    c.place_of-place.ensures c.if-run-ne-ACCEPTED.false
+    ∙ told_right (its x.layout) x.trace.now x.steps _ _ _ _ c.start_size.ensures c.judge_steps-run.ensures _ c.place_of-place.ensures
+    (grind arith)

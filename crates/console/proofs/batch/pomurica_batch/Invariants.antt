@@ -1,10 +1,6 @@
 -- The events passed have their answers in front of the list, and the block is the one after them.
-use Rattle.std.proofs.Common.{length, ◌-◌}
 use Rattle.console.proofs.Batching.{Reached}
 use Rattle.console.proofs.batch.pomurica_batch.Given as goal
 
 abbrev pub invariant-loop-i : goal.invariant-loop-i
 invariant-loop-i l = Reached l.events l.initial.block l.answers l.block l.i
-
-abbrev pub decreases-loop-i : goal.decreases-loop-i
-decreases-loop-i l = length l.events - l.i

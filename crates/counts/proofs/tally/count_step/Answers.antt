@@ -44,8 +44,8 @@ bump-requires-2 c =
     let p1 = after1 b t s c.word_at-code.result _ _ c.bump.ensures c.code_number.ensures c.word_at-code.ensures in
     (omega arith, rw p1 (tally_up (omega arith) (tally1 b t s)))
 
-pub bump-requires-3 : goal.bump-requires-3
-bump-requires-3 c =
+pub bump_if-requires : goal.bump_if-requires
+bump_if-requires c =
     let b = c.args.gains.now in
     let t = c.requires.1 in
     let s = shown_step c.args.r.now in
@@ -53,15 +53,15 @@ bump-requires-3 c =
     let p2 = after2 b t s _ _ _ c.bump-2.ensures p1 c.word_at-number.ensures in
     (omega arith, rw p2 (tally_up (omega arith) (tally2 b t s)))
 
-pub bump-requires-4 : goal.bump-requires-4
-bump-requires-4 c =
+pub bump_if-requires-2 : goal.bump_if-requires-2
+bump_if-requires-2 c =
     let b = c.args.gains.now in
     let t = c.requires.1 in
     let s = shown_step c.args.r.now in
     let p1 = after1 b t s c.word_at-code.result _ _ c.bump.ensures c.code_number.ensures c.word_at-code.ensures in
     let p2 = after2 b t s _ _ _ c.bump-2.ensures p1 c.word_at-number.ensures in
     let p3 = after3 b t s _ _ _ c.word_at-code.ensures c.word_at-number.ensures c.word_at-value.ensures _ _ _
-    c.bump-3.ensures p2 c.target_number.ensures in
+    c.bump_if.ensures p2 c.target_number.ensures in
     (omega arith, rw p3 (tally3 b t s))
 
 pub returns : goal.returns
@@ -72,7 +72,7 @@ returns c =
     let p1 = after1 b t s c.word_at-code.result _ _ c.bump.ensures c.code_number.ensures c.word_at-code.ensures in
     let p2 = after2 b t s _ _ _ c.bump-2.ensures p1 c.word_at-number.ensures in
     let p3 = after3 b t s _ _ _ c.word_at-code.ensures c.word_at-number.ensures c.word_at-value.ensures _ _ _
-    c.bump-3.ensures p2 c.target_number.ensures in
+    c.bump_if.ensures p2 c.target_number.ensures in
     let p4 = after4 b t s _ _ _ c.word_at-code.ensures c.word_at-number.ensures c.word_at-value.ensures _ _ _
-    c.bump-4.ensures p3 c.taken_number.ensures in
+    c.bump_if-2.ensures p3 c.taken_number.ensures in
     rw p4 (all_bumped b t s)

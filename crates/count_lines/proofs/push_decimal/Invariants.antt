@@ -1,9 +1,0 @@
--- The last digits of the number are put, and its first ones are those of what is left.
-use Rattle.count_lines.proofs.Pushing.{Written}
-use Rattle.count_lines.proofs.push_decimal.Given as goal
-
-abbrev pub invariant-loop-rest : goal.invariant-loop-rest
-invariant-loop-rest l = Written l.initial.text l.at l.number l.text l.first l.rest
-
-abbrev pub decreases-loop-rest : goal.decreases-loop-rest
-decreases-loop-rest l = l.rest
