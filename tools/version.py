@@ -26,6 +26,10 @@ def numbers_after(name, form, words):
     return [found(name, form.format(word)) for word in words]
 
 
+# Landings of our own, which are no request and have a note beside those of the requests.
+OURS = [39]
+
+
 def claims(version):
     """What has to be so: a place, what stands there, and what is due."""
     parts = version.split('.')
@@ -43,7 +47,7 @@ def claims(version):
     yield 'CHANGELOG.md, a heading for each landing', sorted({int(heading.split('.')[1]) for heading in headings}), [
         *range(request + 1)]
     notes = sorted(int(note) for name in glob.glob('docs/changes/*.md') for note in re.findall(r'(\d+)\.md$', name))
-    yield 'docs/changes, a note for each landing', notes, [*range(1, request + 1)]
+    yield 'docs/changes, a note for each landing', notes, [*range(1, request + 1), *OURS]
 
 
 def main():

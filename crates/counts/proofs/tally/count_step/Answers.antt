@@ -1,78 +1,65 @@
 -- The four bumps are those of the Step that the bytes show.
 use Rattle.std.specs.Prelude.{if◌then◌else◌}
-use mathlib.Core.Path.{◌≡◌, ap, ◌∙◌}
+use mathlib.Core.Path.{◌≡◌, refl, ap, ◌∙◌}
 use mathlib.Core.List.{List}
-use Prim.Native.Nat.{ℕ}
+use Prim.Native.Nat.{ℕ, ◌≤◌}
 use native.Mathlib.Omega.{arith}
 use Rattle.entry.specs.Code.{is_known}
 use Rattle.counts.specs.Counts.{Step}
 use Rattle.counts.specs.Parts.{Tally, shown_step, step_of, target_number, taken_number, bumped}
-use Rattle.counts.proofs.Bumping.{tally_up, same_target, same_taken, b1, b2, b3, tally1, tally2, tally3, all_bumped}
+use Rattle.counts.proofs.Bumping.{tally_up, same_target, same_taken, tally1, tally2, tally3, all_bumped}
 use Rattle.counts.proofs.tally.count_step.Goals as goal
 
--- the tally b, the Step s, the words read of it, and the tally after each bump
-module _ (b : List ℕ) (t : Tally 65535 b) (s : Step) where
-  after1 : (code number : ℕ) (c : List ℕ) → c ≡ bumped b 0 number → number ≡ (if is_known code then code else 0)
-      → code ≡ s.event.code
-      → c ≡ b1 b t s
-  after1 code number c e n r = e ∙ ap (bumped b 0) (n ∙ ap (λ (x : ℕ). if is_known x then x else 0) r)
+-- a bump of a tally that is known, under a number that is known
+next : (first : ℕ) {number n : ℕ} {c known d : List ℕ} → d ≡ bumped c first number → c ≡ known → number ≡ n → d ≡ bumped known first n
+next first made p q = made ∙ (λ i. bumped (p i) first (q i))
 
-  after2 : (number : ℕ) (c d : List ℕ) → d ≡ bumped c 32 number → c ≡ b1 b t s → number ≡ s.answer.number → d ≡ b2 b t s
-  after2 number c d e p r = e ∙ (λ i. bumped (p i) 32 (r i))
+-- such a tally has room for the next bump
+roomy : {n : ℕ} {c known : List ℕ} → c ≡ known → Tally n known → n ≤ 65538 → Tally 65538 c
+roomy p t l = rw p (tally_up l t)
 
-  module _ (code number value : ℕ) (x : code ≡ s.event.code) (y : number ≡ s.answer.number) (z : value ≡ s.answer.value) where
-    words : step_of code number value ≡ step_of s.event.code s.answer.number s.answer.value
-    words = λ i. step_of (x i) (y i) (z i)
+-- the numbers that a Step counts under, by the words that are read of it
+of_code : {code m n : ℕ} → n ≡ (if is_known code then code else 0) → code ≡ m → n ≡ (if is_known m then m else 0)
+of_code e x = e ∙ ap (λ (u : ℕ). if is_known u then u else 0) x
 
-    after3 : (target : ℕ) (c d : List ℕ) → d ≡ bumped c 64 target → c ≡ b2 b t s → target ≡ target_number (step_of code number value)
-        → d ≡ b3 b t s
-    after3 target c d e p r =
-        let n = r ∙ ap target_number words ∙ same_target s in
-        e ∙ (λ i. bumped (p i) 64 (n i))
+module _ (s : Step) {code number value : ℕ} (x : code ≡ s.event.code) (y : number ≡ s.answer.number) (z : value ≡ s.answer.value) where
+  words : step_of code number value ≡ step_of s.event.code s.answer.number s.answer.value
+  words = λ i. step_of (x i) (y i) (z i)
 
-    after4 : (taken : ℕ) (c d : List ℕ) → d ≡ bumped c 96 taken → c ≡ b3 b t s → taken ≡ taken_number (step_of code number value)
-        → d ≡ bumped (b3 b t s) 96 (taken_number s)
-    after4 taken c d e p r =
-        let n = r ∙ ap taken_number words ∙ same_taken s in
-        e ∙ (λ i. bumped (p i) 96 (n i))
+  of_target : {n : ℕ} → n ≡ target_number (step_of code number value) → n ≡ target_number s
+  of_target e = e ∙ ap target_number words ∙ same_target s
+
+  of_taken : {n : ℕ} → n ≡ taken_number (step_of code number value) → n ≡ taken_number s
+  of_taken e = e ∙ ap taken_number words ∙ same_taken s
 
 pub bump-requires-2 : goal.bump-requires-2
 bump-requires-2 c =
-    let b = c.args.gains.now in
-    let t = c.requires.1 in
     let s = shown_step c.args.r.now in
-    let p1 = after1 b t s c.word_at-code.result _ _ c.bump.ensures c.code_number.ensures c.word_at-code.ensures in
-    (omega arith, rw p1 (tally_up (omega arith) (tally1 b t s)))
+    let coded = next 0 c.bump.ensures refl (of_code c.code_number.ensures c.word_at-code.ensures) in
+    (omega arith, roomy coded (tally1 c.args.gains.now c.requires.1 s) (omega arith))
 
 pub bump_if-requires : goal.bump_if-requires
 bump_if-requires c =
-    let b = c.args.gains.now in
-    let t = c.requires.1 in
     let s = shown_step c.args.r.now in
-    let p1 = after1 b t s c.word_at-code.result _ _ c.bump.ensures c.code_number.ensures c.word_at-code.ensures in
-    let p2 = after2 b t s _ _ _ c.bump-2.ensures p1 c.word_at-number.ensures in
-    (omega arith, rw p2 (tally_up (omega arith) (tally2 b t s)))
+    let coded = next 0 c.bump.ensures refl (of_code c.code_number.ensures c.word_at-code.ensures) in
+    let answered = next 32 c.bump-2.ensures coded c.word_at-number.ensures in
+    (omega arith, roomy answered (tally2 c.args.gains.now c.requires.1 s) (omega arith))
 
 pub bump_if-requires-2 : goal.bump_if-requires-2
 bump_if-requires-2 c =
-    let b = c.args.gains.now in
-    let t = c.requires.1 in
     let s = shown_step c.args.r.now in
-    let p1 = after1 b t s c.word_at-code.result _ _ c.bump.ensures c.code_number.ensures c.word_at-code.ensures in
-    let p2 = after2 b t s _ _ _ c.bump-2.ensures p1 c.word_at-number.ensures in
-    let p3 = after3 b t s _ _ _ c.word_at-code.ensures c.word_at-number.ensures c.word_at-value.ensures _ _ _
-    c.bump_if.ensures p2 c.target_number.ensures in
-    (omega arith, rw p3 (tally3 b t s))
+    let coded = next 0 c.bump.ensures refl (of_code c.code_number.ensures c.word_at-code.ensures) in
+    let answered = next 32 c.bump-2.ensures coded c.word_at-number.ensures in
+    let target = of_target s c.word_at-code.ensures c.word_at-number.ensures c.word_at-value.ensures c.target_number.ensures in
+    let targeted = next 64 c.bump_if.ensures answered target in
+    (omega arith, roomy targeted (tally3 c.args.gains.now c.requires.1 s) (omega arith))
 
 pub returns : goal.returns
 returns c =
-    let b = c.args.gains.now in
-    let t = c.requires.1 in
     let s = shown_step c.args.r.now in
-    let p1 = after1 b t s c.word_at-code.result _ _ c.bump.ensures c.code_number.ensures c.word_at-code.ensures in
-    let p2 = after2 b t s _ _ _ c.bump-2.ensures p1 c.word_at-number.ensures in
-    let p3 = after3 b t s _ _ _ c.word_at-code.ensures c.word_at-number.ensures c.word_at-value.ensures _ _ _
-    c.bump_if.ensures p2 c.target_number.ensures in
-    let p4 = after4 b t s _ _ _ c.word_at-code.ensures c.word_at-number.ensures c.word_at-value.ensures _ _ _
-    c.bump_if-2.ensures p3 c.taken_number.ensures in
-    rw p4 (all_bumped b t s)
+    let coded = next 0 c.bump.ensures refl (of_code c.code_number.ensures c.word_at-code.ensures) in
+    let answered = next 32 c.bump-2.ensures coded c.word_at-number.ensures in
+    let target = of_target s c.word_at-code.ensures c.word_at-number.ensures c.word_at-value.ensures c.target_number.ensures in
+    let targeted = next 64 c.bump_if.ensures answered target in
+    let taken = of_taken s c.word_at-code.ensures c.word_at-number.ensures c.word_at-value.ensures c.taken_number.ensures in
+    rw (next 96 c.bump_if-2.ensures targeted taken) (all_bumped c.args.gains.now c.requires.1 s)
