@@ -41,4 +41,4 @@ module _ (b : List ℕ) (a w : ℕ) (size : length b ≡ BLOCK_SIZE) (good : fau
     check_takes x e = same_action b (by e)
 
     pub check_quiet : None ≡ found a cpsr scr hcr → CameTo b (action b (event INTERRUPT_CHECK a w)) (Ok (NothingTaken a)) b
-    check_quiet e = same_action b (by e) (record { block = refl; answer = refl; small = tt })
+    check_quiet e = same_action b (by e) (record { block = refl; answer = refl; verdict = refl; small = tt })

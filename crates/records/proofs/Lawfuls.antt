@@ -112,7 +112,7 @@ narrow_wide false b h = take_all BLOCK_SIZE b (omega arith)
 
 -- a block that is such a one
 module _ (old : Bool) where
-  wide_is : (b c : List ℕ) → length b ≡ (layout old).size → c ≡ wide old b → (narrow old c ≡ b) × IsWide old c
+  pub wide_is : (b c : List ℕ) → length b ≡ (layout old).size → c ≡ wide old b → (narrow old c ≡ b) × IsWide old c
   wide_is b c h e =
       let back : narrow old c ≡ b = ap (narrow old) e ∙ narrow_wide old b h in
       (back, record { size = ap length back ∙ h; is = e ∙ ap (wide old) (sym back) })
