@@ -182,7 +182,6 @@ fn answer_in<const WHOSE: u32>(block: &mut [u8], code: u32, operands: Operands) 
     }
 }
 
-
 // A direct step, for who goes through a list of events.
 #[inline(always)]
 pub fn advance(block: &mut [u8], e: Event) -> Answer
