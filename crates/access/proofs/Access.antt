@@ -50,10 +50,10 @@ settled false true why x h = rw h
 settled false false why x h = refl
 
 -- whether an access by A is refused, and why
-abbrev Barred : ℕ → ℕ → ℕ → Bool
+abbrev pub Barred : ℕ → ℕ → ℕ → Bool
 Barred a cpsr scr = cell a is NO_PLACE || denied (cell a) (mode_field cpsr) (secure cpsr scr)
 
-abbrev Why : ℕ → ℕ → ℕ
+abbrev pub Why : ℕ → ℕ → ℕ
 Why a cpsr = if cell a is NO_PLACE then NO_REGISTER else reason (cell a) (mode_field cpsr)
 
 -- what an access comes to by its right, under that one test
@@ -103,7 +103,7 @@ module _ (b : List ℕ) (a w : ℕ) {cpsr scr : ℕ} (ec : cpsr ≡ word b CPSR)
         → CameTo b (action b (event BANKED_READ a w)) (Ok (Register v)) b
     read_done p v h e =
         same_action b (allowed b a ec es _ _ (at_read b a w size good right_read) p h)
-        (record { block = refl; answer = rw (e, h.0); small = tt })
+        (record { block = refl; answer = rw (e, h.0); verdict = rw (e, h.0); small = tt })
 
   pub write_malformed : CELL_VALUES ≤ a → CameTo b (action b (event BANKED_WRITE a w)) (Err BadEvent) b
   unfolding bad_event
@@ -124,4 +124,4 @@ module _ (b : List ℕ) (a w : ℕ) {cpsr scr : ℕ} (ec : cpsr ≡ word b CPSR)
         → CameTo b (action b (event BANKED_WRITE a w)) (Ok (Written w)) m
     write_done p h e =
         same_action b (allowed b a ec es _ _ (at_write b a w size good right_write) p h)
-        (record { block = rw h.0 at e; answer = refl; small = tt })
+        (record { block = rw h.0 at e; answer = refl; verdict = refl; small = tt })

@@ -30,7 +30,7 @@ module _ (b : List ℕ) (p v : ℕ) {judged : Result Unit Refusal} where
   pub put_done : {x : Unit {0}} {l : List ℕ} → judged ≡ Ok x → l ≡ put b p v
       → CameTo b (judged_put p v (number_of judged)) (Ok (Written v)) l
   unfolding judged_put
-  put_done e h = rw e (record { block = h; answer = refl; small = tt })
+  put_done e h = rw e (record { block = h; answer = refl; verdict = refl; small = tt })
 
 -- the fault of the words that a note of v at the place a would leave, by which of them it is on
 module _ (b : List ℕ) (a v : ℕ) where

@@ -46,13 +46,15 @@ impl Text {
         &self.bytes[self.first..]
     }
 
-    // One byte before it.
+    // One byte before it. Where it begins is stored behind the byte: to the compiler any byte may be one of `first`, and stored before it,
+    // that would be read back from memory at each byte.
     fn push(&mut self, byte: u8)
         requires { length self.old < text_size }
         ensures { self.new ≡ byte ∷ self.old }
     {
-        self.first -= 1;
-        self.bytes[self.first] = byte;
+        let first = self.first - 1;
+        self.bytes[first] = byte;
+        self.first = first;
     }
 
     // A number in decimal before it.

@@ -40,7 +40,7 @@ unfolding spsr_place is_target
 place_tells m l = same_eq (spsr_place m is NO_PLACE) (not (is_target m)) (at_below 32 marked refl m l)
 
 -- the place of the saved word, as it was found for the mode of CPSR
-none_saved : (cpsr : ℕ) → NO_PLACE ≡ spsr_place (mode_field cpsr) → is_target (mode_field cpsr) ≡ false
+pub none_saved : (cpsr : ℕ) → NO_PLACE ≡ spsr_place (mode_field cpsr) → is_target (mode_field cpsr) ≡ false
 none_saved cpsr e =
     not-true (is_target (mode_field cpsr))
     (sym (place_tells (mode_field cpsr) (omega arith)) ∙ eq-eqb (spsr_place (mode_field cpsr)) NO_PLACE (sym e))
@@ -51,7 +51,7 @@ some_saved cpsr n =
     (sym (place_tells (mode_field cpsr) (omega arith)) ∙ ne_eqb (spsr_place (mode_field cpsr)) NO_PLACE n)
 
 -- a good block with a saved state may return
-leaves : (b : List ℕ) {cpsr scr : ℕ} → cpsr ≡ word b CPSR → scr ≡ word b SCR → fault b ≡ DONE
+pub leaves : (b : List ℕ) {cpsr scr : ℕ} → cpsr ≡ word b CPSR → scr ≡ word b SCR → fault b ≡ DONE
     → is_target (mode_field cpsr) ≡ true → Leaves cpsr scr
 unfolding fault
 leaves b {cpsr} {scr} ec es good t =

@@ -8,7 +8,7 @@ use Prim.Native.Nat.{ℕ, ◌+◌, ◌*◌, ◌/◌, ◌%◌, ◌^◌, ◌<◌}
 use native.Mathlib.Omega.{arith}
 use native.Mathlib.Nat.{mod-eq_of_lt}
 use lib.Dec.{ltb, lit<}
-use borrow.Author.Tests.{eq-eqb, eqb-true, eqb-false, lt-ltb}
+use borrow.Author.Tests.{eq-eqb, ne_eqb, eqb-true, eqb-false, lt-ltb}
 use Rattle.state.specs.Choice.{◌is◌}
 use Rattle.state.specs.Number.{DONE, NOT_BANKED}
 use Rattle.state.proofs.Test.{and_left, and_right, both, refuted, true_is_not_false}
@@ -22,7 +22,7 @@ use Rattle.instruction.specs.Places.{a_in}
 use Rattle.instruction.specs.Theorems.{InstructionTheorems}
 use Rattle.instruction.proofs.Tables.{Tiles, tiled, Each, unit, whole, below, put_is_in, same_total}
 use Rattle.instruction.proofs.Tests.{not_both}
-use Rattle.instruction.proofs.Writing.{in_ranges, ranges}
+use Rattle.instruction.proofs.Writing.{in_ranges, ranges, mrs_word, msr_word}
 
 -- ---- a field by its value
 
@@ -347,6 +347,40 @@ writing_is p = by (are_parts p)
         (if t then sum else 0) ≡ unwrap_or (if t then Some (if t then sum else 0) else None) 0
     by true = refl
     by false = refl
+
+-- ---- the numbers by what was read and written: the parts of no instruction have no code, and no instruction is the word 0
+
+pub number_by_code : (w : ℕ) → read_number w ≡ (if (reading w).code is 0 then NOT_BANKED else DONE)
+unfolding read_number reading
+number_by_code w = by (is_of BANKED_READ w) (is_of BANKED_WRITE w)
+  where
+    by : (t u : Bool)
+        → (if t || u then DONE else NOT_BANKED)
+        ≡ (if (if t then parts_in BANKED_READ w else if u then parts_in BANKED_WRITE w else no_parts).code is 0 then NOT_BANKED else DONE)
+    by true u = refl
+    by false true = refl
+    by false false = refl
+
+-- what there is to write, where there are parts of an instruction
+the_word : (p : Parts) {w : ℕ} → are_parts p ≡ true → Some w ≡ write_if p → w ≡ writing p
+unfolding write_if
+the_word p {w} are h = ap (λ x. unwrap_or x w) (h ∙ ap (λ t. if t then Some (writing p) else None) are)
+
+not_zero : (p : Parts) → are_parts p ≡ true → writing p ≡ 0 → ⊥
+not_zero p are z =
+    let r = ranges p (in_ranges_lem p are) in
+    let in_them = and_right (ltb p.a 64) (in_range p) (in_ranges_lem p are) in
+    by_code p are ⊥ (λ e. omega (arith, the_word p are (mrs_word p r.0 in_them e), z))
+    (λ e. omega (arith, the_word p are (msr_word p r.0 in_them e), z))
+
+pub number_by_word : (p : Parts) → write_number p ≡ (if writing p is 0 then NOT_BANKED else DONE)
+number_by_word p = by (are_parts p) refl
+  where
+    by : (t : Bool) → are_parts p ≡ t → write_number p ≡ (if writing p is 0 then NOT_BANKED else DONE)
+    by true h = number_written p h ∙ sym (ap (λ t. if t then NOT_BANKED else DONE) (ne_eqb (writing p) 0 (not_zero p h)))
+    by false h =
+        let none = not_written p (λ z. true_is_not_false (are_parts_lem p z) h) in
+        none.0 ∙ sym (ap (λ t. if t then NOT_BANKED else DONE) (eq-eqb (writing p) 0 none.1))
 
 pub theorems : InstructionTheorems
 unfolding reading

@@ -14,6 +14,7 @@ const RANGE: u32 = 15;
 const CELLS: u32 = 64;
 
 // What an instruction says: the event's code and A, and apart from them the condition and the general register.
+#[repr(C)]
 #[derive(Clone, Copy, Debug, PartialEq, Eq)]
 pub struct Parts {
     pub code: u32,

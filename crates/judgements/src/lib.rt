@@ -15,9 +15,12 @@ use records::layout::Layout;
 use records::run::Run;
 use rules::verdict::Answer;
 use state::place::{BLOCK_SIZE, OLD_BLOCK_SIZE};
-use state::refusal::Refusal;
+use state::refusal::{DONE, Refusal};
 use words::runs::copy;
 use words::{runs, word_at};
+
+// The number of a record, and of a trace, without a fault.
+pub const ACCEPTED: u32 = DONE;
 
 // The head of the record due, of this size and kind. Its two halves are compared as one word.
 pub fn judge_head(r: &[u8], size: u32, kind: u32) -> Result<(), Refusal>

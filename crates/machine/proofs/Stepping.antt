@@ -75,7 +75,7 @@ module _ (b : List ℕ) (e : Event) where
         (rw (t, u) p.0, (rw (t, u) p.1.0, rw (t, u) p.1.1.0))
 
 -- a code that is no arm's, as the last of them knows it
-no_arm : (code : ℕ) → Unlike (Unit {0}) code codes → is_known code ≡ false
+pub no_arm : (code : ℕ) → Unlike (Unit {0}) code codes → is_known code ≡ false
 no_arm code h = (unlike_among (Unit {0}) code codes h).1
 
 -- by the three words that were read of a block

@@ -1,7 +1,7 @@
 // One step: an event on a lent block (document 01, "Answer numbers"). The block is judged once, then the code says which
 // event it is, and the event's own rule does the rest.
 //
-// `step` is C's, `step_event` that of the checker, the explanation and the recorder, `advance` that of a batch. Each has a dispatch of
+// `step` is C's, `replay` that of the checker, the explanation and the recorder, `advance` that of a batch. Each has a dispatch of
 // its own, made of one function by its const parameter: the compiler makes a function that is called from one place part of that
 // place, and with one dispatch for all, every step would save and restore the registers of the dearest event (docs/DECISIONS.md,
 // "Shape").
@@ -26,7 +26,8 @@ use access::{BankedRead, BankedWrite, Note};
 use entry::code;
 use exception_return::ExceptionReturn;
 use interrupt_check::InterruptCheck;
-use rules::answer::{ANSWER_SIZE, NUMBER, VALUE, tell};
+pub use rules::answer::ANSWER_SIZE;
+use rules::answer::{NUMBER, VALUE, tell};
 use rules::event::{Event, Operands};
 use rules::known::direct_code;
 use rules::rule::Rule;
@@ -136,6 +137,7 @@ pub fn step(block: &mut [u8], code: u32, a: u32, b: u32, buffer: &mut [u8]) -> u
 }
 
 // The machine's step, of any event, over a lent answer buffer; its value is a word.
+#[inline(always)]
 pub fn replay(block: &mut [u8], code: u32, a: u32, b: u32, buffer: &mut [u8]) -> u32
     ensures number { result ≡ number_returned block.old (record { code = code; a = a; b = b }) buffer.old }
     ensures leaves { block.new ≡ block_left block.old (record { code = code; a = a; b = b }) buffer.old }
@@ -144,6 +146,20 @@ pub fn replay(block: &mut [u8], code: u32, a: u32, b: u32, buffer: &mut [u8]) ->
         → (answer block.old (record { code = code; a = a; b = b })).value < 2 ^ 32 }
 {
     step_over::<OF_A_TRACE>(block, code, Operands { a, b }, buffer)
+}
+
+// The same with the event and the answer as values, on a block of any size, for who goes over a trace again.
+#[inline(always)]
+pub fn step_event(block: &mut [u8], e: Event) -> Answer
+    ensures answers { result ≡ answer block.old e }
+    ensures leaves { block.new ≡ after block.old e }
+{
+    let mut buffer = [0u8; ANSWER_SIZE];
+    let number = replay(block, e.code, e.a, e.b, &mut buffer);
+    Answer {
+        number,
+        value: get_word(&buffer, VALUE),
+    }
 }
 
 // What came of an event, on a block of any size, by the dispatch `WHOSE`. Both words are read back from the buffer: they go on as one.
@@ -164,15 +180,6 @@ fn answer_in<const WHOSE: u32>(block: &mut [u8], code: u32, operands: Operands) 
         number: get_word(&buffer, NUMBER),
         value: get_word(&buffer, VALUE),
     }
-}
-
-// The same by value, for who goes over a trace again.
-#[inline(always)]
-pub fn step_event(block: &mut [u8], e: Event) -> Answer
-    ensures answers { result ≡ answer block.old e }
-    ensures leaves { block.new ≡ after block.old e }
-{
-    answer_in::<OF_A_TRACE>(block, e.code, Operands { a: e.a, b: e.b })
 }
 
 // A direct step, for who goes through a list of events.

@@ -3,12 +3,12 @@
 use Rattle.std.specs.Prelude.{if◌then◌else◌}
 use mathlib.Core.Path.{◌≡◌, refl, sym, ap, ◌∙◌}
 use mathlib.Core.Bool.{Bool, true, false}
-use mathlib.Core.List.{List, ◌++◌}
+use mathlib.Core.List.{List, ◌++◌, append-nil}
 use Prim.Native.Nat.{ℕ, ◌+◌, ◌≤◌}
 use native.Mathlib.Omega.{arith}
 use lib.Dec.{lit<, lit≤}
-use lib.ListN.{length, take, drop, length-append, length-take, take-append-drop}
-use lib.Seq.{take_at, take_all, drop_at}
+use lib.ListN.{length, take, drop, replicate, length-append, length-take, take-append-drop}
+use lib.Seq.{take_at, take_all, take-length, drop_at}
 use Rattle.words.specs.Word.{le32, Bytes}
 use Rattle.words.proofs.Laws.{bytes_le32}
 use Rattle.words.proofs.Spell.{bytes_append, bytes_take}
@@ -106,18 +106,36 @@ pub wide-answer : (old : Bool) (b : List ℕ) (e : Event) → answer (wide old b
 wide-answer true b e = refl
 wide-answer false b e = refl
 
+pub length-wide : (old : Bool) (b : List ℕ) → length b ≡ (layout old).size → length (wide old b) ≡ BLOCK_SIZE
+length-wide true b h = length_with b h
+length-wide false b h = h
+
 pub narrow_wide : (old : Bool) (b : List ℕ) → length b ≡ (layout old).size → take (layout old).size (wide old b) ≡ b
 narrow_wide true b h = take_at b (le32 0) OLD_BLOCK_SIZE h
 narrow_wide false b h = take_all BLOCK_SIZE b (omega arith)
 
+-- copied over zeros it is
+pub wide_copied : (old : Bool) (b c : List ℕ) → length b ≡ (layout old).size
+    → c ≡ take (length b) b ++ drop (length b) (replicate BLOCK_SIZE 0) → c ≡ wide old b
+wide_copied old b c h e =
+    e ∙ ap (λ l. l ++ drop (length b) (replicate BLOCK_SIZE 0)) (take-length b)
+    ∙ ap (λ n. b ++ drop n (replicate BLOCK_SIZE 0)) h ∙ behind old
+  where
+    behind : (t : Bool) → b ++ drop (layout t).size (replicate BLOCK_SIZE 0) ≡ wide t b
+    behind true = refl
+    behind false = append-nil b
+
 -- a block that is such a one
 module _ (old : Bool) where
-  wide_is : (b c : List ℕ) → length b ≡ (layout old).size → c ≡ wide old b → (narrow old c ≡ b) × IsWide old c
+  pub wide_is : (b c : List ℕ) → length b ≡ (layout old).size → c ≡ wide old b → (narrow old c ≡ b) × IsWide old c
   wide_is b c h e =
       let back : narrow old c ≡ b = ap (narrow old) e ∙ narrow_wide old b h in
       (back, record { size = ap length back ∙ h; is = e ∙ ap (wide old) (sym back) })
 
   module _ (c : List ℕ) (w : IsWide old c) where
+    pub size_wide : length c ≡ BLOCK_SIZE
+    size_wide = ap length w.is ∙ length-wide old (narrow old c) w.size
+
     -- a step on it is the layout's
     pub answered_wide : (e : Event) → answer c (seen old e) ≡ (layout old).answer (narrow old c) e
     answered_wide e = ap (λ d. answer d (seen old e)) w.is ∙ wide-answer old (narrow old c) e

@@ -53,6 +53,7 @@ module _ (b : List ℕ) (x : Exception) {k : List ℕ} (e : k ≡ va_cleared b x
   taken to offset link h v t near = record {
     block = h ∙ ap (λ (c : List ℕ). entered c to offset link) e;
     answer = ap answer_for v;
+    verdict = v;
     small = rw v (target_small to t, near);
   }
 
@@ -83,7 +84,7 @@ refuses NotBanked = refl
 
 -- a refusal leaves the block
 pub refused : (b : List ℕ) (r : Refusal) {y : Action} → Refuse (number r) ≡ y → CameTo b y (Err r) b
-refused b r e = same_action b e (record { block = refl; answer = refl; small = tt })
+refused b r e = same_action b e (record { block = refl; answer = refl; verdict = tt; small = tt })
 
 -- told, over an answer buffer
 pub carried : (b : List ℕ) (x : Action) {o : Result Verdict Refusal} {n : ℕ} {l m : List ℕ} → CameTo b x o l

@@ -1,6 +1,7 @@
 -- What the code's own parts ask and answer. Nobody has to believe these: they stand between the code and the rules, and the
 -- laws of proofs/ join them to `action`.
-use Rattle.std.specs.Prelude.{Result, Ok, Err, ◌≡◌, true, List, ℕ, ◌<◌, ◌^◌, if◌then◌else◌}
+use Rattle.std.specs.Prelude.{Result, Ok, Err, IfOk, ◌≡◌, true, false, List, ℕ, ◌<◌, ◌^◌, if◌then◌else◌}
+use Rattle.words.specs.Word.{word}
 use Rattle.state.specs.Choice.{◌is◌}
 use Rattle.state.specs.Mode.{is_target}
 use Rattle.state.specs.Number.{DONE}
@@ -12,7 +13,7 @@ use Rattle.state.specs.State.{fault}
 use Rattle.state.specs.declared.state.Status.{Status}
 use Rattle.entry.specs.Offset.{PREFETCH_ABORT}
 use Rattle.rules.specs.Step.{Action, Refuse, Take, Quiet, Read, Put, Return, answer_to, block_after, answer_bytes}
-use Rattle.rules.specs.Verdict.{Answer, answer_for, refused_with, Verdict, Entry, NothingTaken, Register, Written, Returned}
+use Rattle.rules.specs.Verdict.{Answer, answer_for, refused_with, entry_to, Verdict, Entry, NothingTaken, Register, Written, Returned}
 
 -- a good block, and CPSR and SCR as they were read from it
 abbrev pub Ready : List ℕ → Status → Type 0
@@ -35,10 +36,21 @@ abbrev pub SmallOutcome : Result Verdict Refusal → Type 0
 SmallOutcome (Ok v) = Small v
 SmallOutcome (Err r) = Unit {0}
 
--- an action carried out, in the code's words: the block that it leaves, and what came of it, of which the answer is told
+-- the verdict of an action that is done; one that is refused has none
+abbrev pub DoneAs : List ℕ → Action → Verdict → Type 0
+DoneAs b (Refuse n) v = true ≡ false
+DoneAs b (Take x to offset link) v = v ≡ entry_to x to offset
+DoneAs b (Quiet lines) v = v ≡ NothingTaken lines
+DoneAs b (Read p) v = v ≡ Register (word b p)
+DoneAs b (Put p w) v = v ≡ Written w
+DoneAs b (Return cpsr pc) v = v ≡ Returned pc
+
+-- an action carried out, in the code's words: the block that it leaves, and what came of it, its verdict or its refusal, with the answer
+-- that tells it
 pub record CameTo (b : List ℕ) (x : Action) (o : Result Verdict Refusal) (l : List ℕ) : Type 0 where
   pub block : l ≡ block_after b x
   pub answer : answer_of o ≡ answer_to b x
+  pub verdict : IfOk o (DoneAs b x)
   pub small : SmallOutcome o
 
 -- an answer told: its number is returned and its bytes fill the buffer; its value is a word

@@ -34,13 +34,13 @@ ghost use Rattle.records.specs.Session.{
 };
 ghost use Rattle.records.specs.Fed.{Room, Due as Found, Taken, Takes, head_seen, seen_from, stepped, concluded};
 
-use judgements::{judge_end, judge_head, judge_start, judge_steps};
+use judgements::{ACCEPTED, judge_end, judge_head, judge_start, judge_steps};
 use records::layout;
 use records::layout::Layout;
 use records::report::Report;
 use records::session::{AT_START, NEXT, OLD_NEXT, OVER, Progress, RECORD_SIZE, Session};
 use state::place::BLOCK_SIZE;
-use state::refusal::{DONE, Refusal};
+use state::refusal::Refusal;
 use words::runs::copy;
 use words::word_at;
 
@@ -58,7 +58,7 @@ pub fn open() -> Session
             steps: 0,
             place: 0,
             held: 0,
-            fault: DONE,
+            fault: ACCEPTED,
             closed: 0,
         },
         block: [0u8; BLOCK_SIZE],
@@ -80,7 +80,7 @@ fn next(layout: Layout) -> u32
 fn newly(before: u32, after: u32) -> bool
     ensures { result ≡ (before is 0 && not (after is 0)) }
 {
-    before == DONE && after != DONE
+    before == ACCEPTED && after != ACCEPTED
 }
 
 // ---- the record due
@@ -396,7 +396,7 @@ fn take(layout: Layout, p: Progress, r: &[u8], block: &mut [u8], unfinished: &mu
         progress: p,
         taken: r.len(),
     };
-    if p.closed != 0 || p.fault != DONE {
+    if p.closed != 0 || p.fault != ACCEPTED {
         return all;
     }
     if OVER <= p.stage {
@@ -552,11 +552,11 @@ pub fn shut(p: Progress) -> Progress
 fn close_number(p: Progress) -> u32
     ensures { result ≡ close_number p }
 {
-    if p.fault != DONE {
+    if p.fault != ACCEPTED {
         return p.fault;
     }
     if OVER <= p.stage {
-        return DONE;
+        return ACCEPTED;
     }
     Refusal::Short.number()
 }

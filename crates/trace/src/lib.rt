@@ -64,6 +64,7 @@ fn check_in(layout: Layout, trace: &[u8]) -> Report
 }
 
 // The report on any bytes, in the layout of their Start; number 0 exactly on a published trace of either layout.
+#[inline(always)]
 pub fn check(trace: &[u8]) -> Report
     ensures report { result ≡ report_of_either trace.now }
     ensures exact { (result.number ≡ 0) ↔ PublishedInOne trace.now }
